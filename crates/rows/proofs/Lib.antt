@@ -1,0 +1,6 @@
+pub mod Span
+pub mod Walk
+pub mod Groups
+pub mod Tests
+pub mod Fits
+pub mod Laws

@@ -1,0 +1,4 @@
+pub mod Number
+pub mod Rounding
+pub mod Difference
+pub mod Position

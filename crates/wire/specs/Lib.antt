@@ -1,0 +1,4 @@
+pub mod Word
+pub mod Check
+pub mod Faults
+pub mod Telegram
