@@ -8,7 +8,7 @@ use Prim.Native.Nat.{ℕ, suc, _-_, _<_, _≤_}
 use native.Mathlib.Omega.{arith}
 use lib.Dec.{T, eqb, ltb, eqb→eq}
 use lib.IntN.{ℤ, pos, negsuc, natAbs}
-use lib.ListN.{length, getD, set}
+use lib.ListN.{getD, set}
 use lib.Signed.{ltZ}
 use borrow.Author.Tests.{ltb-true, ltb-false, le-ltb}
 use Rattle.signed.specs.Number.{numberOf}
@@ -51,9 +51,9 @@ pub range-fits : (a w : ℕ) {i : ℕ} → placeOf a ≡ At i → rangeOf a w �
 unfolding rangeOf fitsIn
 range-fits a w p h = rw (rw p at h)
 
-pub all-right-at : (ws : List ℕ) (i : ℕ) → length ws ≡ 39 → allRightOf ws ≡ true → i < 39 → fitsIn (rowOf i) (getD ws i 0) ≡ true
+pub all-right-at : (ws : List ℕ) (i : ℕ) → allRightOf ws ≡ true → i < 39 → fitsIn (rowOf i) (getD ws i 0) ≡ true
 unfolding allRightOf rowOf rows
-all-right-at ws i n h p = each-in blank rows ws i h p
+all-right-at ws i h p = each-in blank rows ws i h p
 
 pub all-right-set : (ws : List ℕ) (i w : ℕ) → allRightOf ws ≡ true → fitsIn (rowOf i) w ≡ true → allRightOf (set ws i w) ≡ true
 unfolding allRightOf rowOf

@@ -1,0 +1,68 @@
+-- What a telegram does to the errors (document 01, check 1, "What each one does" and "Times and keys").
+-- Assumes nothing.
+use Prim.Native.Nat.{ℕ, _+_, _/_, _%_}
+use mathlib.Core.Bool.{Bool, cond, not, _&&_}
+use lib.Dec.{eqb, ltb}
+use Rattle.wire.specs.Faults.{codeOf}
+use Rattle.wire.specs.declared.fault.Fault.the-variants.{CheckSum}
+use Rattle.judge.specs.declared.deed.Deed.{Deed}
+use Rattle.judge.specs.declared.deed.Deed.the-variants.{Nothing, Store, Reset, Restart, Calibrate, Forget, Unlock, Freeze, Aim1, Aim2, ClearStatic, Release}
+use Rattle.judge.specs.declared.verdict.Verdict.{Verdict}
+use Rattle.judge.specs.declared.verdict.Verdict.the-variants.{Obeyed, Silent, Refused}
+use Rattle.state.specs.declared.parts.ErrorList.{ErrorList}
+use Rattle.state.specs.declared.parts.Faults.{Faults}
+use Rattle.state.specs.Errors.{emptyList, rememberedOf}
+
+-- the bit of this weight is set in a control word
+unfoldable pub takenOf : ℕ → ℕ → Bool
+takenOf word weight = eqb (word / weight % 2) 1
+
+abbrev pub withMemory : Faults → ErrorList → Faults
+withMemory f l = record { memory = l; inputs = f .inputs; pending = f .pending; damaged = f .damaged }
+
+abbrev pub withInputs : Faults → ErrorList → Faults
+withInputs f l = record { memory = f .memory; inputs = l; pending = f .pending; damaged = f .damaged }
+
+abbrev pub withPending : Faults → ℕ → Faults
+withPending f code = record { memory = f .memory; inputs = f .inputs; pending = code; damaged = f .damaged }
+
+abbrev pub withDamaged : Faults → ℕ → Faults
+withDamaged f n = record { memory = f .memory; inputs = f .inputs; pending = f .pending; damaged = n }
+
+-- a raised error becomes the pending one and enters the error memory
+unfoldable pub raisedOf : Faults → ℕ → Faults
+raisedOf f code = withPending (withMemory f (rememberedOf (f .memory) code)) code
+
+-- three damaged in a row raise error 0080h and the count returns to 0; a sound telegram sets it to 0
+unfoldable pub countedOf : Bool → Faults → Faults
+countedOf sound f =
+    cond sound (withDamaged f 0)
+    (cond (ltb (f .damaged) 2) (withDamaged f (f .damaged + 1)) (raisedOf (withDamaged f 0) (codeOf CheckSum)))
+
+-- every error reply enters the input list
+unfoldable pub complainedOf : Verdict → Faults → Faults
+complainedOf Obeyed f = f
+complainedOf Silent f = f
+complainedOf (Refused fault) f = withInputs f (rememberedOf (f .inputs) (codeOf fault))
+
+-- bit 5 acknowledges the error if the last taken word had it 0
+unfoldable pub acknowledgedOf : ℕ → ℕ → Faults → Faults
+acknowledgedOf word last f = cond (takenOf word 32 && not (takenOf last 32)) (withPending f 0) f
+
+-- a restart keeps the error memory, and clears the input list, the pending error and the count
+unfoldable pub restartedFaults : Faults → Faults
+restartedFaults f = record { memory = f .memory; inputs = emptyList; pending = 0; damaged = 0 }
+
+unfoldable pub faultsBy : Deed → ℕ → Faults → Faults
+faultsBy Nothing last f = f
+faultsBy (Store i word) last f = f
+faultsBy (Reset command) last f = f
+faultsBy Restart last f = restartedFaults f
+faultsBy Calibrate last f = f
+faultsBy Forget last f = withMemory f emptyList
+faultsBy (Unlock b) last f = f
+faultsBy Freeze last f = f
+faultsBy (Aim1 v word) last f = acknowledgedOf word last f
+faultsBy (Aim2 v word) last f = acknowledgedOf word last f
+faultsBy ClearStatic last f = f
+faultsBy Release last f = f

@@ -1,0 +1,5 @@
+pub mod Stored
+pub mod Faults
+pub mod Measured
+pub mod Aimed
+pub mod Restart

@@ -1,0 +1,122 @@
+-- The seven checks of a telegram's way through the head (document 01), one definition each.
+-- Assumes nothing.
+use Prim.Native.Nat.{ℕ}
+use mathlib.Core.Bool.{Bool, true, false, cond, not, _&&_, _||_}
+use lib.Dec.{ltb}
+use Rattle.wire.specs.declared.fault.Fault.{Fault}
+use Rattle.wire.specs.declared.fault.Fault.the-variants.{CheckSum, Unlisted, Below, Above, UnknownParameter, NoAccess, WriteRefused, ReadRefused, Locked}
+use Rattle.rows.specs.declared.access.Access.{Access}
+use Rattle.rows.specs.declared.access.Access.the-variants.{ReadWrite, ReadOnly, WriteOnly, Unknown}
+use Rattle.rows.specs.declared.kind.Kind.{Kind}
+use Rattle.rows.specs.declared.kind.Kind.the-variants.{Stored, SetPoint1, SetPoint2, Identification, Version, ErrorCount, ErrorAt, InputErrors, StatusWord, Differential, Pending, Position, System, Calibration, Interlock, Freezing, Unassigned}
+use Rattle.rows.specs.declared.range.Range.{Range}
+use Rattle.rows.specs.declared.range.Range.the-variants.{Right, Low, High, Between}
+use Rattle.judge.specs.declared.command.Command.{Command}
+use Rattle.judge.specs.declared.command.Command.the-variants.{Read, Write, Broadcast, Other}
+use Rattle.judge.specs.declared.verdict.Verdict.{Verdict}
+use Rattle.judge.specs.declared.verdict.Verdict.the-variants.{Obeyed, Silent, Refused}
+use Rattle.judge.specs.Commands.{readsOf, writesOf, castsOf, changesOf}
+
+-- the first check that applies decides
+infixr 20 _else_
+unfoldable pub _else_ : Verdict → Verdict → Verdict
+Obeyed else v = v
+Silent else v = Silent
+Refused f else v = Refused f
+
+-- 1. exclusive-or not 0: answered only if the node byte is the number in force and the command is not 02h
+unfoldable pub sumCheck : Bool → Command → Bool → Verdict
+sumCheck sound c mine = cond sound Obeyed (cond (mine && not (castsOf c)) (Refused CheckSum) Silent)
+
+-- 2. not a broadcast, and the node byte is not the number in force
+unfoldable pub nodeCheck : Command → Bool → Verdict
+nodeCheck c mine = cond (castsOf c || mine) Obeyed Silent
+
+-- 3. command above 02h
+unfoldable pub commandCheck : Command → Verdict
+commandCheck Read = Obeyed
+commandCheck Write = Obeyed
+commandCheck Broadcast = Obeyed
+commandCheck Other = Refused NoAccess
+
+-- 4. unknown parameter
+unfoldable pub parameterCheck : Access → Verdict
+parameterCheck ReadWrite = Obeyed
+parameterCheck ReadOnly = Obeyed
+parameterCheck WriteOnly = Obeyed
+parameterCheck Unknown = Refused UnknownParameter
+
+-- 5. a broadcast only where one is allowed; no write to read only, no read of write only
+abbrev pub groupCheck : Command → Access → Verdict
+groupCheck c ReadWrite = Obeyed
+groupCheck c ReadOnly = cond (writesOf c) (Refused WriteRefused) Obeyed
+groupCheck c WriteOnly = cond (readsOf c) (Refused ReadRefused) Obeyed
+groupCheck c Unknown = Obeyed
+
+unfoldable pub accessCheck : Command → Access → Bool → Verdict
+accessCheck c a castable = cond (castsOf c) (cond castable Obeyed Silent) (groupCheck c a)
+
+-- 6. locked, and the write or broadcast is to one of the 39 or A0h
+unfoldable pub lockableOf : Kind → Bool
+lockableOf (Stored i) = true
+lockableOf SetPoint1 = false
+lockableOf SetPoint2 = false
+lockableOf Identification = false
+lockableOf Version = false
+lockableOf ErrorCount = false
+lockableOf (ErrorAt i) = false
+lockableOf InputErrors = false
+lockableOf StatusWord = false
+lockableOf Differential = false
+lockableOf Pending = false
+lockableOf Position = false
+lockableOf System = true
+lockableOf Calibration = false
+lockableOf Interlock = false
+lockableOf Freezing = false
+lockableOf Unassigned = false
+
+unfoldable pub lockCheck : Bool → Command → Kind → Verdict
+lockCheck locked c k = cond (locked && (changesOf c && lockableOf k)) (Refused Locked) Obeyed
+
+-- 7. value below low, above high, in between and not listed
+unfoldable pub rangeCheck : Range → Verdict
+rangeCheck Right = Obeyed
+rangeCheck Low = Refused Below
+rangeCheck High = Refused Above
+rangeCheck Between = Refused Unlisted
+
+unfoldable pub valueCheck : Command → Range → Verdict
+valueCheck c g = cond (changesOf c) (rangeCheck g) Obeyed
+
+-- 7. for 96h a number above the count
+abbrev pub isInputErrors : Kind → Bool
+isInputErrors (Stored i) = false
+isInputErrors SetPoint1 = false
+isInputErrors SetPoint2 = false
+isInputErrors Identification = false
+isInputErrors Version = false
+isInputErrors ErrorCount = false
+isInputErrors (ErrorAt i) = false
+isInputErrors InputErrors = true
+isInputErrors StatusWord = false
+isInputErrors Differential = false
+isInputErrors Pending = false
+isInputErrors Position = false
+isInputErrors System = false
+isInputErrors Calibration = false
+isInputErrors Interlock = false
+isInputErrors Freezing = false
+isInputErrors Unassigned = false
+
+unfoldable pub numberCheck : Kind → ℕ → ℕ → Verdict
+numberCheck k number inputs = cond (isInputErrors k && ltb inputs number) (Refused Above) Obeyed
+
+-- a refused broadcast is silent
+abbrev quiet : Verdict → Verdict
+quiet Obeyed = Obeyed
+quiet Silent = Silent
+quiet (Refused f) = Silent
+
+unfoldable pub hushOf : Command → Verdict → Verdict
+hushOf c v = cond (castsOf c) (quiet v) v

@@ -1,0 +1,5 @@
+pub mod Commands
+pub mod Checks
+pub mod Verdicts
+pub mod Deeds
+pub mod Judged

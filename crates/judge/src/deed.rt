@@ -1,0 +1,84 @@
+// What a telegram does, once it is judged.
+use crate::command;
+use crate::command::Command;
+use crate::verdict::Verdict;
+use rows::kind::Kind;
+ghost use mathlib.Core.Path.{_≡_};
+ghost use Rattle.judge.specs.Deeds.{systemOf, doneBy, shownBy, deedOf};
+
+pub enum Deed {
+    // Nothing: it was refused or not heard, or it only reads.
+    Nothing,
+    // The value goes to the stored parameter at the place.
+    Store(usize, u32),
+    // The factory reset of this number: 1, 2 or 5.
+    Reset(u32),
+    Restart,
+    Calibrate,
+    // The error memory is emptied.
+    Forget,
+    // The interlock is opened, or closed.
+    Unlock(bool),
+    Freeze,
+    // Set point 1 or 2, with the control word.
+    Aim1(u32, u16),
+    Aim2(u32, u16),
+    // The status word was read by FAh: the static bit is cleared.
+    ClearStatic,
+    // The position was read by FEh: a kept value is released.
+    Release,
+}
+
+// A0h.
+fn system(value: u32) -> Deed
+    ensures { λ r. ⌜ r ≡ systemOf value ⌝ }
+{
+    match value {
+        7 => Deed::Calibrate,
+        8 => Deed::Forget,
+        9 => Deed::Restart,
+        _ => Deed::Reset(value),
+    }
+}
+
+// A write or a broadcast that is obeyed.
+fn done_by(k: Kind, value: u32, word: u16) -> Deed
+    ensures { λ r. ⌜ r ≡ doneBy k value word ⌝ }
+{
+    match k {
+        Kind::Stored(i) => Deed::Store(i, value),
+        Kind::SetPoint1 => Deed::Aim1(value, word),
+        Kind::SetPoint2 => Deed::Aim2(value, word),
+        Kind::System => system(value),
+        Kind::Calibration => Deed::Calibrate,
+        Kind::Interlock => Deed::Unlock(value == 1),
+        Kind::Freezing => Deed::Freeze,
+        _ => Deed::Nothing,
+    }
+}
+
+// A read that is obeyed.
+fn shown_by(k: Kind) -> Deed
+    ensures { λ r. ⌜ r ≡ shownBy k ⌝ }
+{
+    match k {
+        Kind::StatusWord => Deed::ClearStatic,
+        Kind::Position => Deed::Release,
+        _ => Deed::Nothing,
+    }
+}
+
+pub fn deed_of(v: Verdict, c: Command, k: Kind, value: u32, word: u16) -> Deed
+    ensures { λ r. ⌜ r ≡ deedOf v c k value word ⌝ }
+{
+    match v {
+        Verdict::Obeyed => {
+            if command::changes(c) {
+                return done_by(k, value, word);
+            }
+            shown_by(k)
+        }
+        Verdict::Silent => Deed::Nothing,
+        Verdict::Refused(_) => Deed::Nothing,
+    }
+}

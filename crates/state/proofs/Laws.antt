@@ -1,0 +1,205 @@
+-- What holds of a head for any caller: where its settings stand, what a well-formed head is, and how large its values can be.
+-- Assumes nothing.
+use Prim.Native.Nat.{ℕ, _≤_, _<_}
+use mathlib.Core.Path.{_≡_, refl}
+use mathlib.Core.Bool.{Bool, true, false, cond, not, _&&_, and-eq-true-iff}
+use mathlib.Core.List.{List, [], _∷_, map}
+use mathlib.Core.Logic.{⊎-elim}
+use native.Mathlib.Omega.{arith}
+use lib.Dec.{leb, ltb, eqb}
+use lib.IntN.{ℤ, pos, negsuc, natAbs}
+use borrow.Author.Tests.{leb-true, le-leb, lt-ltb, le-ltb, eq-eqb}
+use Rattle.signed.proofs.Sizes.{less-or-not}
+use Rattle.signed.proofs.Laws.{absolute-small, relative-small, rounded-small}
+use Rattle.rows.specs.declared.table.Place.the-variants.{At}
+use Rattle.rows.specs.Table.{rows, rowOf, placeOf}
+use Rattle.rows.specs.Ranges.{fitsIn, allRightOf}
+use Rattle.rows.proofs.Laws.{offset-limits, calibration-limits}
+use Rattle.state.specs.declared.parts.ErrorList.{ErrorList}
+use Rattle.state.specs.declared.parts.Head.{Head}
+use Rattle.state.specs.declared.parts.Stored.{Stored}
+use Rattle.state.specs.declared.parts.Faults.{Faults}
+use Rattle.state.specs.declared.parts.Measurement.{Measurement}
+use Rattle.state.specs.declared.parts.Targets.{Targets}
+use Rattle.state.specs.declared.parts.Ear.{Ear}
+use Rattle.state.specs.declared.status.Bearing.{Bearing}
+use Rattle.state.specs.Settings.{valueAt, nodePlace, baudPlace, timeoutPlace, responsePlace, calibrationKeyPlace, divisorPlace, interlockPlace, directionPlace, offsetPlace, calibrationPlace, window1Place, window2Place, applicationPlace, differencePlace, incrementalKeyPlace}
+use Rattle.state.specs.Errors.{rememberedOf}
+use Rattle.state.specs.Position.{positionOf, actualOf, shownOf, placedAt, viewOf}
+use Rattle.state.specs.Status.{bitOf, aimBitsOf, restBitsOf, aimedAt, statusOf}
+use Rattle.state.specs.Wellformed.{inReachOf, storedFits, faultsFit, keptFits, measurementFits, earFits, wellformedOf}
+
+-- ---- each place is its address's place
+pub places :
+    map placeOf
+    (0x00 ∷ 0x01 ∷ 0x02 ∷ 0x03 ∷ 0x05 ∷ 0x0B ∷ 0x0E ∷ 0x1B ∷ 0x1E ∷ 0x1F ∷ 0x20 ∷ 0x31 ∷ 0x33 ∷ 0x34 ∷ 0x35 ∷ [])
+    ≡ map At
+    (nodePlace ∷ baudPlace ∷ timeoutPlace ∷ responsePlace ∷ calibrationKeyPlace ∷ divisorPlace ∷ interlockPlace ∷ directionPlace
+    ∷ offsetPlace ∷ calibrationPlace ∷ window1Place ∷ window2Place ∷ applicationPlace ∷ differencePlace ∷ incrementalKeyPlace ∷ [])
+unfolding placeOf rows
+places = refl
+
+-- ---- the status word fits 16 bits
+bit-small : (on : Bool) (weight : ℕ) → bitOf on weight ≤ weight
+bit-small true weight = omega arith
+bit-small false weight = omega arith
+
+aim-small : (valid : Bool) (g : Bearing) → aimBitsOf valid g ≤ 107
+unfolding aimBitsOf
+aim-small valid g =
+    omega (
+      arith,
+      bit-small (valid && (not (g .near) && g .clockwise)) 1,
+      bit-small (valid && (not (g .near) && not (g .clockwise))) 2,
+      bit-small (valid && g .far) 8,
+      bit-small (valid && g .near) 32,
+      bit-small (valid && g .above) 64,
+    )
+
+rest-small : (t : Targets) (pending frozen incremental : Bool) (keys : ℕ) → restBitsOf t pending frozen incremental keys ≤ 59284
+unfolding restBitsOf
+rest-small t pending frozen incremental keys =
+    omega (
+      arith,
+      bit-small (t .valid1) 4,
+      bit-small (t .reached) 16,
+      bit-small pending 128,
+      bit-small frozen 256,
+      bit-small incremental 512,
+      bit-small (t .valid2) 1024,
+    )
+
+pub status-fits : (h : Head) → statusOf h < 65536
+unfolding statusOf
+status-fits h =
+    omega (
+      arith,
+      aim-small (h .targets .valid2) (aimedAt (h .stored .values) (h .measurement) (h .targets)),
+      rest-small (h .targets) (not (eqb (h .faults .pending) 0)) (h .measurement .frozen) (h .measurement .incremental) (h .keys),
+    )
+
+-- ---- a list stays one of at most ten
+pub remembered-few : (l : ErrorList) (code : ℕ) → l .count ≤ 10 → rememberedOf l code .count ≤ 10
+unfolding rememberedOf
+remembered-few l code h =
+    ⊎-elim
+    (λ p. simp (lt-ltb (l .count) 10 p) (omega arith))
+    (λ p. let e : l .count ≡ 10 = omega arith in simp (le-ltb (l .count) 10 p, eq-eqb (l .count) 10 e) h)
+    (less-or-not (l .count) 10)
+
+-- ---- what a well-formed head is
+both : (a b : Bool) → (a && b) ≡ true → (a ≡ true) × (b ≡ true)
+both a b = and-eq-true-iff a b .0
+
+-- a measurement in reach, by its size
+pub reach-small : (v : ℤ) → inReachOf v ≡ true → natAbs v ≤ 2500000
+unfolding inReachOf
+reach-small (pos n) h = leb-true n 2500000 h
+reach-small (negsuc n) h = omega (arith, leb-true n 2499999 (both (leb n 2499999) true h .0))
+
+pub small-reach : (v : ℤ) → natAbs v ≤ 2500000 → inReachOf v ≡ true
+unfolding inReachOf
+small-reach (pos n) h = le-leb n 2500000 h
+small-reach (negsuc n) h = rw (le-leb n 2499999 (omega arith))
+
+pub record WellStored (s : Stored) : Type 0 where
+  pub values : allRightOf (s .values) ≡ true
+  pub number : fitsIn (rowOf nodePlace) (s .number) ≡ true
+
+pub stored-told : (s : Stored) → storedFits s ≡ true → WellStored s
+unfolding storedFits
+stored-told s h = let b = both (allRightOf (s .values)) _ h in record { values = b .0; number = b .1 }
+
+pub stored-holds : (s : Stored) → WellStored s → storedFits s ≡ true
+unfolding storedFits
+stored-holds s w = rw (w .values, w .number)
+
+pub record WellFaults (f : Faults) : Type 0 where
+  pub memory : f .memory .count ≤ 10
+  pub inputs : f .inputs .count ≤ 10
+  pub damaged : f .damaged ≤ 2
+
+pub faults-told : (f : Faults) → faultsFit f ≡ true → WellFaults f
+unfolding faultsFit
+faults-told f h =
+    let b = both (leb (f .memory .count) 10) _ h in
+    let d = both (leb (f .inputs .count) 10) _ (b .1) in
+    record { memory = leb-true _ _ (b .0); inputs = leb-true _ _ (d .0); damaged = leb-true _ _ (d .1) }
+
+pub faults-holds : (f : Faults) → WellFaults f → faultsFit f ≡ true
+unfolding faultsFit
+faults-holds f w = rw (le-leb _ _ (w .memory), le-leb _ _ (w .inputs), le-leb _ _ (w .damaged))
+
+pub record WellMeasured (g : Measurement) : Type 0 where
+  pub m : inReachOf (g .m) ≡ true
+  pub zero : inReachOf (g .zero) ≡ true
+  pub start : inReachOf (g .start) ≡ true
+  pub adopted : fitsIn (rowOf calibrationPlace) (g .adopted) ≡ true
+  pub kept : natAbs (g .kept) ≤ 5242880
+
+pub measurement-told : (g : Measurement) → measurementFits g ≡ true → WellMeasured g
+unfolding measurementFits keptFits
+measurement-told g h =
+    let b = both (inReachOf (g .m)) _ h in
+    let d = both (inReachOf (g .zero)) _ (b .1) in
+    let e = both (inReachOf (g .start)) _ (d .1) in
+    let f = both (fitsIn (rowOf calibrationPlace) (g .adopted)) _ (e .1) in
+    record { m = b .0; zero = d .0; start = e .0; adopted = f .0; kept = leb-true _ _ (f .1) }
+
+pub measurement-holds : (g : Measurement) → WellMeasured g → measurementFits g ≡ true
+unfolding measurementFits keptFits
+measurement-holds g w = rw (w .m, w .zero, w .start, w .adopted, le-leb _ _ (w .kept))
+
+pub ear-told : (e : Ear) → earFits e ≡ true → e .count ≤ 9
+unfolding earFits
+ear-told e h = leb-true (e .count) 9 h
+
+pub ear-holds : (e : Ear) → e .count ≤ 9 → earFits e ≡ true
+unfolding earFits
+ear-holds e h = le-leb (e .count) 9 h
+
+pub record Wellformed (h : Head) : Type 0 where
+  pub stored : storedFits (h .stored) ≡ true
+  pub faults : faultsFit (h .faults) ≡ true
+  pub measurement : measurementFits (h .measurement) ≡ true
+  pub ear : earFits (h .ear) ≡ true
+  pub keys : h .keys ≤ 7
+
+pub told : (h : Head) → wellformedOf h ≡ true → Wellformed h
+unfolding wellformedOf
+told h w =
+    let b = both (storedFits (h .stored)) _ w in
+    let d = both (faultsFit (h .faults)) _ (b .1) in
+    let e = both (measurementFits (h .measurement)) _ (d .1) in
+    let f = both (earFits (h .ear)) _ (e .1) in
+    record { stored = b .0; faults = d .0; measurement = e .0; ear = f .0; keys = leb-true _ _ (f .1) }
+
+pub holds : (h : Head) → Wellformed h → wellformedOf h ≡ true
+unfolding wellformedOf
+holds h w = rw (w .stored, w .faults, w .measurement, w .ear, le-leb _ _ (w .keys))
+
+-- ---- what a well-formed head shows is within what a value is held to
+either-small : (t : Bool) (a b : ℤ) (n : ℕ) → natAbs a ≤ n → natAbs b ≤ n → natAbs (cond t a b) ≤ n
+either-small true a b n p q = p
+either-small false a b n p q = q
+
+module _ (vs : List ℕ) (g : Measurement) (o : fitsIn (rowOf offsetPlace) (valueAt vs offsetPlace) ≡ true) (f : measurementFits g ≡ true) where
+  placed-small : natAbs (placedAt vs g) ≤ 5242880
+  unfolding positionOf
+  placed-small =
+      let w = measurement-told g f in
+      either-small (g .incremental) _ _ 5242880
+      (relative-small (g .m) (g .start) (reach-small _ (w .m)) (reach-small _ (w .start)))
+      (absolute-small (g .m) (g .zero) (g .adopted) (valueAt vs offsetPlace) (reach-small _ (w .m)) (reach-small _ (w .zero))
+      (calibration-limits (g .adopted) (w .adopted)) (offset-limits (valueAt vs offsetPlace) o))
+
+  actual-small : natAbs (viewOf vs g .actual) ≤ 5242880
+  unfolding viewOf actualOf
+  actual-small =
+      either-small (ltb (valueAt vs applicationPlace) 2) _ _ 5242880
+      (omega (arith, placed-small, rounded-small (placedAt vs g) (valueAt vs divisorPlace)))
+      placed-small
+
+  pub shown-small : natAbs (viewOf vs g .shown) ≤ 5242880
+  unfolding viewOf shownOf
+  shown-small = either-small (eqb (valueAt vs applicationPlace) 0) _ _ 5242880 actual-small placed-small

@@ -1,0 +1,14 @@
+-- `state::status::within` meets its contract by that of `aimed`.
+-- Assumes nothing.
+use Rattle.state.specs.Status.{withinOf}
+use borrow.Author.Needs.{needs}
+use Rattle.state.proofs.status.within.Statement.{statement}
+use Rattle.state.proofs.status.within.Tie as tie
+
+pub within-spec : {M : Type 1} → statement M
+unfolding withinOf
+within-spec =
+    tie.close
+    (tie.spec
+    (λ c κs. search needs)
+    (λ c. rw (c .before .before .aimed .ensures)))

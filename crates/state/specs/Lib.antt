@@ -1,0 +1,5 @@
+pub mod Settings
+pub mod Errors
+pub mod Position
+pub mod Status
+pub mod Wellformed

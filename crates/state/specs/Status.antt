@@ -1,0 +1,71 @@
+-- The status word and the differential value (document 01, "Position and status").
+-- Assumes nothing.
+use Prim.Native.Nat.{ℕ, _+_, _*_, _%_}
+use mathlib.Core.Bool.{Bool, cond, not, _&&_}
+use mathlib.Core.List.{List}
+use lib.Dec.{leb, eqb}
+use lib.IntN.{ℤ}
+use lib.Signed.{ltZ}
+use Rattle.signed.specs.Number.{numberOf, distanceOf}
+use Rattle.signed.specs.Difference.{differentialOf}
+use Rattle.state.specs.declared.parts.Head.{Head}
+use Rattle.state.specs.declared.parts.Measurement.{Measurement}
+use Rattle.state.specs.declared.parts.Targets.{Targets}
+use Rattle.state.specs.declared.status.Bearing.{Bearing}
+use Rattle.state.specs.Settings.{valueAt, directionPlace, window1Place, window2Place, differencePlace}
+use Rattle.state.specs.Position.{viewOf}
+
+-- bit 0 and not bit 1: A below S with 1Bh 0, or A above S with 1Bh 1
+abbrev pub clockwiseOf : Bool → Bool → Bool → Bool
+clockwiseOf below above turned = cond turned above below
+
+-- how A lies to S: the distance at most 20h, at most 31h, A above S, the way to go
+unfoldable pub aimOf : List ℕ → ℤ → ℤ → Bearing
+aimOf vs a s =
+    record {
+      near = leb (distanceOf a s) (valueAt vs window1Place);
+      far = leb (distanceOf a s) (valueAt vs window2Place);
+      above = ltZ s a;
+      clockwise = clockwiseOf (ltZ a s) (ltZ s a) (eqb (valueAt vs directionPlace) 1);
+    }
+
+-- the weight of a bit that is on
+abbrev pub bitOf : Bool → ℕ → ℕ
+bitOf on weight = cond on weight 0
+
+-- only with bit 10: 0 and 1 outside 20h, 3 within 31h, 5 within 20h, 6 A above S
+unfoldable pub aimBitsOf : Bool → Bearing → ℕ
+aimBitsOf valid g =
+    bitOf (valid && (not (g .near) && g .clockwise)) 1
+    + bitOf (valid && (not (g .near) && not (g .clockwise))) 2
+    + bitOf (valid && g .far) 8
+    + bitOf (valid && g .near) 32
+    + bitOf (valid && g .above) 64
+
+-- 2 set point 1 valid, 4 static, 7 error pending, 8 frozen, 9 incremental, 10 set point 2 valid, 13 to 15 keys
+unfoldable pub restBitsOf : Targets → Bool → Bool → Bool → ℕ → ℕ
+restBitsOf t pending frozen incremental keys =
+    bitOf (t .valid1) 4
+    + bitOf (t .reached) 16
+    + bitOf pending 128
+    + bitOf frozen 256
+    + bitOf incremental 512
+    + bitOf (t .valid2) 1024
+    + keys % 8 * 8192
+
+-- S: set point 2, valid or not, read as signed; how A lies to it
+unfoldable pub aimedAt : List ℕ → Measurement → Targets → Bearing
+aimedAt vs g t = aimOf vs (viewOf vs g .actual) (numberOf (t .second))
+
+unfoldable pub statusOf : Head → ℕ
+statusOf h =
+    aimBitsOf (h .targets .valid2) (aimedAt (h .stored .values) (h .measurement) (h .targets))
+    + restBitsOf (h .targets) (not (eqb (h .faults .pending) 0)) (h .measurement .frozen) (h .measurement .incremental) (h .keys)
+
+-- bit 5 holds
+unfoldable pub withinOf : List ℕ → Measurement → Targets → Bool
+withinOf vs g t = t .valid2 && aimedAt vs g t .near
+
+-- A - S if 34h is 0, else S - A, for the set point s
+unfoldable pub differenceOf : List ℕ → Measurement → ℕ → ℤ
+differenceOf vs g s = differentialOf (viewOf vs g .actual) (numberOf s) (eqb (valueAt vs differencePlace) 1)

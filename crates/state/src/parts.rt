@@ -1,0 +1,108 @@
+// A head by value, in small parts. Stored is all that demand 3 speaks of.
+#[repr(C)]
+pub struct ErrorList {
+    pub codes: [u16; 10],
+    pub count: u32,
+}
+
+// The 39 values as words on the wire, the number and the baud setting in force, and whether the interlock is open.
+#[repr(C)]
+pub struct Stored {
+    pub values: [u32; 39],
+    pub number: u32,
+    pub baud: u32,
+    pub unlocked: bool,
+}
+
+// Remembered errors and input errors, the pending error (0: none), damaged telegrams in a row.
+#[repr(C)]
+pub struct Faults {
+    pub memory: ErrorList,
+    pub inputs: ErrorList,
+    pub pending: u16,
+    pub damaged: u32,
+}
+
+// `start` is the m at switching incremental on, `kept` what FEh showed at freezing: 0 while it is off.
+#[repr(C)]
+pub struct Measurement {
+    pub m: i32,
+    pub zero: i32,
+    pub adopted: u32,
+    pub incremental: bool,
+    pub start: i32,
+    pub frozen: bool,
+    pub kept: i64,
+}
+
+// Both set points with their validity, the last taken control word, the static bit.
+#[repr(C)]
+pub struct Targets {
+    pub first: u32,
+    pub valid1: bool,
+    pub second: u32,
+    pub valid2: bool,
+    pub word: u16,
+    pub reached: bool,
+}
+
+// The bus timeout: running since the last sound telegram, and when that came (0 while it is stopped).
+#[repr(C)]
+pub struct Monitor {
+    pub running: bool,
+    pub since: u32,
+}
+
+// The bytes gathered, how many, and when the last byte came.
+#[repr(C)]
+pub struct Ear {
+    pub bytes: [u8; 10],
+    pub count: usize,
+    pub at: u32,
+}
+
+#[repr(C)]
+pub struct Head {
+    pub stored: Stored,
+    pub faults: Faults,
+    pub measurement: Measurement,
+    pub targets: Targets,
+    pub monitor: Monitor,
+    pub ear: Ear,
+    pub keys: u32,
+}
+
+// The places of the parameters that a head itself goes by.
+pub struct At {}
+
+impl At {
+    pub const NODE: usize = 0;
+
+    pub const BAUD: usize = 1;
+
+    pub const TIMEOUT: usize = 2;
+
+    pub const RESPONSE: usize = 3;
+
+    pub const CALIBRATION_KEY: usize = 5;
+
+    pub const DIVISOR: usize = 11;
+
+    pub const INTERLOCK: usize = 14;
+
+    pub const DIRECTION: usize = 16;
+
+    pub const OFFSET: usize = 18;
+
+    pub const CALIBRATION: usize = 19;
+
+    pub const WINDOW1: usize = 20;
+
+    pub const WINDOW2: usize = 25;
+
+    pub const APPLICATION: usize = 27;
+
+    pub const DIFFERENCE: usize = 28;
+
+    pub const INCREMENTAL_KEY: usize = 29;
+}
