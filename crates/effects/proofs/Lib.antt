@@ -1,2 +1,4 @@
 pub mod Resets
 pub mod Rest
+pub mod Values
+pub mod Keeps

@@ -1,0 +1,130 @@
+-- Every call keeps a head well-formed, and a new head is well-formed: so a head grown by the calls is never refused with 20.
+-- Assumes nothing.
+use Prim.Native.Nat.{ℕ, _≤_}
+use native.Mathlib.Omega.{arith}
+use mathlib.Core.Path.{_≡_, refl}
+use mathlib.Core.Bool.{Bool, true, false, cond, not, _&&_}
+use mathlib.Core.List.{List}
+use borrow.Author.Tests.{ltb-true, leb-true}
+use lib.Dec.{leb, ltb, eqb}
+use lib.IntN.{ℤ}
+use Rattle.wire.specs.Check.{soundOf}
+use Rattle.wire.specs.Faults.{codeOf}
+use Rattle.wire.specs.declared.fault.Fault.the-variants.{Timeout}
+use Rattle.wire.specs.Telegram.{fieldsOf}
+use Rattle.rows.specs.Table.{rowOf}
+use Rattle.rows.specs.Ranges.{fitsIn}
+use Rattle.judge.specs.declared.deed.Deed.the-variants.{Store}
+use Rattle.judge.specs.declared.judged.Judged.{Judged}
+use Rattle.judge.specs.Judged.{judgedOf}
+use Rattle.judge.proofs.Laws.{stored-fits}
+use Rattle.state.specs.declared.parts.Head.{Head}
+use Rattle.state.specs.declared.parts.Ear.{Ear}
+use Rattle.state.specs.Settings.{valueAt, timeoutPlace, calibrationKeyPlace, incrementalKeyPlace}
+use Rattle.state.specs.Wellformed.{inReachOf, earFits, wellformedOf}
+use Rattle.state.proofs.Laws.{Wellformed, told, holds, stored-told, ear-told, ear-holds}
+use Rattle.effects.specs.Faults.{withPending}
+use Rattle.effects.specs.Restart.{emptyEar, restartedOf, freshOf}
+use Rattle.effects.proofs.Keeps.{either, stored-keeps, counted-keeps, complained-keeps, faults-keeps, raised-keeps, calibrated-keeps, switched-keeps, moved-keeps, measurement-keeps, empty-ear-fits, pending-keeps, restarted-keeps, fresh-keeps}
+use Rattle.head.specs.declared.hear.Gathered.{Gathered}
+use Rattle.head.specs.Hear.{elapsedOf, keptEar, oneMore, gatheredOn, gatheredOf, standingOf, restartsOf, toldOf, tellOf, withEar, stepBy, stepOf}
+use Rattle.head.specs.Moves.{overdueOf, tickedOf, measuredOf, pressedOf, leftOf, upOf, keyedOf}
+use Rattle.head.specs.Calls.{nodeFits}
+
+few-keys : (t : Bool) (k : ℕ) → k ≤ 7 → cond t 0 k ≤ 7
+few-keys true k h = omega arith
+few-keys false k h = h
+
+abbrev Fit : Head → Type 0
+Fit h = wellformedOf h ≡ true
+
+-- ---- a telegram
+told-fits : (j : Judged) (h : Head) (at : ℕ) → ((i w : ℕ) → j .deed ≡ Store i w → fitsIn (rowOf i) w ≡ true) → Fit h → Fit (toldOf j h at)
+unfolding toldOf
+told-fits j h at s f =
+    let w = told h f in
+    holds (toldOf j h at)
+    (record {
+      stored = stored-keeps (j .deed) (h .stored) s (w .stored);
+      faults = faults-keeps (j .deed) (h .targets .word) _ (complained-keeps (j .verdict) _ (counted-keeps (j .sound) _ (w .faults)));
+      measurement = measurement-keeps (j .deed) (h .stored .values) (h .measurement) (stored-told (h .stored) (w .stored) .values) (w .measurement);
+      ear = empty-ear-fits _;
+      keys = few-keys (restartsOf (j .deed)) (h .keys) (w .keys);
+    })
+
+-- ---- a byte that ends no telegram
+kept-few : (e : Ear) (at : ℕ) → earFits e ≡ true → earFits (keptEar e at) ≡ true
+unfolding keptEar
+kept-few e at f = either earFits (ltb 10 (elapsedOf at (e .at))) (emptyEar at) e (λ t. empty-ear-fits at) f
+
+ear-fits : (h : Head) (e : Ear) → earFits e ≡ true → Fit h → Fit (withEar h e)
+ear-fits h e k f =
+    let w = told h f in
+    holds (withEar h e) (record { stored = w .stored; faults = w .faults; measurement = w .measurement; ear = k; keys = w .keys })
+
+tell-fits : (h : Head) (ten : List ℕ) (at : ℕ) → Fit h → Fit (tellOf h ten at .head)
+unfolding tellOf judgedOf
+tell-fits h ten at f =
+    told-fits (judgedOf ten (standingOf h)) h at (λ i w e. stored-fits (soundOf ten) (fieldsOf ten) (standingOf h) e .1) f
+
+by-fits : (h : Head) (b at : ℕ) (e : Ear) → earFits e ≡ true → Fit h → Fit (stepBy h (gatheredOn e b at) at .head)
+by-fits h b at e k f = go (ltb (e .count) 9) refl
+  where
+    go : (t : Bool) → ltb (e .count) 9 ≡ t → Fit (stepBy h (gatheredOn e b at) at .head)
+    go true q = let n = ltb-true (e .count) 9 q in rw q (ear-fits h (oneMore e b at) (ear-holds (oneMore e b at) (omega arith)) f)
+    go false q = rw q (tell-fits h _ at f)
+
+pub step-fits : (h : Head) (b at : ℕ) → wellformedOf h ≡ true → wellformedOf (stepOf h b at .head) ≡ true
+unfolding stepOf gatheredOf
+step-fits h b at f = by-fits h b at (keptEar (h .ear) at) (kept-few (h .ear) at (told h f .ear)) f
+
+-- ---- tick, measurement, keys, power, and a head that is made
+pub tick-fits : (h : Head) (at : ℕ) → wellformedOf h ≡ true → wellformedOf (tickedOf h at) ≡ true
+unfolding tickedOf
+tick-fits h at f =
+    let w = told h f in
+    either wellformedOf (h .monitor .running && overdueOf (valueAt (h .stored .values) timeoutPlace) (elapsedOf at (h .monitor .since))) _ h
+    (λ t. holds _ (record { stored = w .stored; faults = raised-keeps (h .faults) (codeOf Timeout) (w .faults); measurement = w .measurement; ear = w .ear; keys = w .keys }))
+    f
+
+pub measure-fits : (h : Head) (m : ℤ) → inReachOf m ≡ true → wellformedOf h ≡ true → wellformedOf (measuredOf h m) ≡ true
+unfolding measuredOf
+measure-fits h m r f =
+    let w = told h f in
+    holds (measuredOf h m)
+    (record { stored = w .stored; faults = w .faults; measurement = moved-keeps m (h .measurement) r (w .measurement); ear = w .ear; keys = w .keys })
+
+left-fits : (on : Bool) (h : Head) → Fit h → Fit (leftOf on h)
+unfolding leftOf
+left-fits on h f =
+    let w = told h f in
+    either wellformedOf on _ h
+    (λ t. either wellformedOf (not (eqb (h .faults .pending) 0)) _ _
+    (λ p. holds _ (record { stored = w .stored; faults = pending-keeps (h .faults) 0 (w .faults); measurement = w .measurement; ear = w .ear; keys = w .keys }))
+    (either wellformedOf (eqb (valueAt (h .stored .values) calibrationKeyPlace) 1) _ h
+    (λ k. holds _ (record { stored = w .stored; faults = w .faults; measurement = calibrated-keeps (h .stored .values) (h .measurement) (stored-told (h .stored) (w .stored) .values) (w .measurement); ear = w .ear; keys = w .keys }))
+    f))
+    f
+
+up-fits : (on : Bool) (h : Head) → Fit h → Fit (upOf on h)
+unfolding upOf
+up-fits on h f =
+    let w = told h f in
+    either wellformedOf (on && eqb (valueAt (h .stored .values) incrementalKeyPlace) 1) _ h
+    (λ t. holds _ (record { stored = w .stored; faults = w .faults; measurement = switched-keeps (h .measurement) (w .measurement); ear = w .ear; keys = w .keys }))
+    f
+
+pub keys-fits : (h : Head) (k : ℕ) → leb k 7 ≡ true → wellformedOf h ≡ true → wellformedOf (keyedOf h k) ≡ true
+unfolding keyedOf
+keys-fits h k r f =
+    let w = told h f in
+    up-fits (pressedOf k (h .keys) 4) _
+    (left-fits (pressedOf k (h .keys) 1) _
+    (holds _ (record { stored = w .stored; faults = w .faults; measurement = w .measurement; ear = w .ear; keys = leb-true k 7 r })))
+
+pub restart-fits : (h : Head) → wellformedOf h ≡ true → wellformedOf (restartedOf h) ≡ true
+restart-fits h f = restarted-keeps h f
+
+pub fresh-fits : (node : ℕ) → nodeFits node ≡ true → wellformedOf (freshOf node) ≡ true
+unfolding nodeFits
+fresh-fits node f = fresh-keeps node f

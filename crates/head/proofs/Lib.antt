@@ -1,0 +1,4 @@
+pub mod Rest
+pub mod Replies
+pub mod Keeps
+pub mod Refused

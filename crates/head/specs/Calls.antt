@@ -1,0 +1,81 @@
+-- The calls on a head and their refusals (document 01, "The line, and calls refused"): 20 goes before all others.
+-- Assumes nothing.
+use Prim.Native.Nat.{ℕ}
+use mathlib.Core.Bool.{Bool, cond}
+use mathlib.Core.List.{List, _++_}
+use lib.Dec.{leb, ltb}
+use lib.IntN.{ℤ}
+use lib.ListN.{length, drop}
+use Rattle.rows.specs.Table.{rowOf}
+use Rattle.rows.specs.Ranges.{fitsIn}
+use Rattle.state.specs.declared.parts.Head.{Head}
+use Rattle.state.specs.Settings.{nodePlace}
+use Rattle.state.specs.Wellformed.{inReachOf, wellformedOf}
+use Rattle.effects.specs.Restart.{restartedOf, freshOf}
+use Rattle.head.specs.declared.refusal.Refusal.{Refusal}
+use Rattle.head.specs.declared.refusal.Refusal.the-variants.{Node, OutOfReach, Keys, Space, Malformed}
+use Rattle.head.specs.declared.calls.Answer.{Answer}
+use Rattle.head.specs.declared.calls.Answer.the-variants as answer
+use Rattle.head.specs.declared.calls.Called.{Called}
+use Rattle.head.specs.declared.calls.Heard.{Heard}
+use Rattle.head.specs.declared.calls.Heard.the-variants as heard
+use Rattle.head.specs.declared.calls.Fed.{Fed}
+use Rattle.head.specs.declared.hear.Stepped.{Stepped}
+use Rattle.head.specs.Hear.{stepOf}
+use Rattle.head.specs.Moves.{tickedOf, measuredOf, keyedOf}
+
+-- a call that was done, and one that was refused: the head is as it was
+abbrev pub doneWith : Head → Called
+doneWith h = record { head = h; answer = answer.Done }
+
+abbrev pub refusedWith : Head → Refusal → Called
+refusedWith h why = record { head = h; answer = answer.Refused why }
+
+-- the factory head
+unfoldable pub factoryOf : Head
+factoryOf = freshOf 31
+
+-- refusal 1: a node number not 1..127 is refused, and the head returned is the factory head at 31
+unfoldable pub nodeFits : ℕ → Bool
+nodeFits node = fitsIn (rowOf nodePlace) node
+
+unfoldable pub madeOf : ℕ → Called
+madeOf node = cond (nodeFits node) (doneWith (freshOf node)) (refusedWith factoryOf Node)
+
+-- a reply in the first ten bytes, the rest unchanged; a space that is too short stays as it is
+unfoldable pub laidOn : List ℕ → List ℕ → List ℕ
+laidOn space x = cond (ltb (length space) 10) space (x ++ drop 10 space)
+
+-- a byte: the number of replies, told apart from a refusal
+abbrev pub fedWith : Stepped → Fed
+fedWith s = record { head = s .head; heard = heard.Replies (cond (s .replied) 1 0) }
+
+abbrev pub unfed : Head → Refusal → Fed
+unfed h why = record { head = h; heard = heard.Refused why }
+
+unfoldable pub byteOf : Head → ℕ → ℕ → ℕ → Fed
+byteOf h b at room =
+    cond (wellformedOf h) (cond (ltb room 10) (unfed h Space) (fedWith (stepOf h b at))) (unfed h Malformed)
+
+-- with one reply it stands in the first ten bytes; with none, or refused, no byte changes
+abbrev pub spaceWith : Stepped → List ℕ → List ℕ
+spaceWith s space = cond (s .replied) (laidOn space (s .reply)) space
+
+unfoldable pub byteSpaceOf : Head → ℕ → ℕ → List ℕ → List ℕ
+byteSpaceOf h b at space =
+    cond (wellformedOf h) (cond (ltb (length space) 10) space (spaceWith (stepOf h b at) space)) space
+
+unfoldable pub tickOf : Head → ℕ → Called
+tickOf h at = cond (wellformedOf h) (doneWith (tickedOf h at)) (refusedWith h Malformed)
+
+unfoldable pub measureOf : Head → ℤ → Called
+measureOf h m =
+    cond (wellformedOf h) (cond (inReachOf m) (doneWith (measuredOf h m)) (refusedWith h OutOfReach)) (refusedWith h Malformed)
+
+unfoldable pub keysOf : Head → ℕ → Called
+keysOf h state =
+    cond (wellformedOf h) (cond (leb state 7) (doneWith (keyedOf h state)) (refusedWith h Keys)) (refusedWith h Malformed)
+
+-- power: a restart
+unfoldable pub powerOf : Head → Called
+powerOf h = cond (wellformedOf h) (doneWith (restartedOf h)) (refusedWith h Malformed)

@@ -1,0 +1,6 @@
+pub mod Reply
+pub mod Hear
+pub mod Moves
+pub mod Refusals
+pub mod Calls
+pub mod Outcome

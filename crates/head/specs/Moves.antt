@@ -1,0 +1,79 @@
+-- What a tick, a measurement and a key state do to a head (document 01, "Times and keys", "Position and status").
+-- Assumes nothing.
+use Prim.Native.Nat.{ℕ, _*_, _/_, _%_}
+use mathlib.Core.Bool.{Bool, cond, not, _&&_}
+use lib.Dec.{leb, ltb, eqb}
+use lib.IntN.{ℤ}
+use Rattle.wire.specs.Faults.{codeOf}
+use Rattle.wire.specs.declared.fault.Fault.the-variants.{Timeout}
+use Rattle.state.specs.declared.parts.Head.{Head}
+use Rattle.state.specs.declared.parts.Faults.{Faults}
+use Rattle.state.specs.declared.parts.Measurement.{Measurement}
+use Rattle.state.specs.declared.parts.Targets.{Targets}
+use Rattle.state.specs.declared.parts.Monitor.{Monitor}
+use Rattle.state.specs.Settings.{valueAt, timeoutPlace, calibrationKeyPlace, incrementalKeyPlace}
+use Rattle.effects.specs.Faults.{raisedOf, withPending}
+use Rattle.effects.specs.Measured.{calibratedOf, switchedOf, movedOf}
+use Rattle.effects.specs.Aimed.{settledOf}
+use Rattle.effects.specs.Restart.{stopped}
+use Rattle.head.specs.Hear.{elapsedOf}
+
+-- the head with other parts
+abbrev pub withFaults : Head → Faults → Head
+withFaults h f =
+    record { stored = h .stored; faults = f; measurement = h .measurement; targets = h .targets; monitor = h .monitor; ear = h .ear; keys = h .keys }
+
+abbrev pub withMeasurement : Head → Measurement → Head
+withMeasurement h g =
+    record { stored = h .stored; faults = h .faults; measurement = g; targets = h .targets; monitor = h .monitor; ear = h .ear; keys = h .keys }
+
+abbrev pub withTargets : Head → Targets → Head
+withTargets h t =
+    record { stored = h .stored; faults = h .faults; measurement = h .measurement; targets = t; monitor = h .monitor; ear = h .ear; keys = h .keys }
+
+abbrev pub withMonitor : Head → Monitor → Head
+withMonitor h m =
+    record { stored = h .stored; faults = h .faults; measurement = h .measurement; targets = h .targets; monitor = m; ear = h .ear; keys = h .keys }
+
+abbrev pub withKeys : Head → ℕ → Head
+withKeys h k =
+    record { stored = h .stored; faults = h .faults; measurement = h .measurement; targets = h .targets; monitor = h .monitor; ear = h .ear; keys = k }
+
+-- 02h above 0 and at least 100 times 02h ms
+unfoldable pub overdueOf : ℕ → ℕ → Bool
+overdueOf timeout elapsed = ltb 0 timeout && leb (100 * timeout) elapsed
+
+-- a tick raises 0081h once and stops the monitor
+unfoldable pub tickedOf : Head → ℕ → Head
+tickedOf h at =
+    cond (h .monitor .running && overdueOf (valueAt (h .stored .values) timeoutPlace) (elapsedOf at (h .monitor .since)))
+    (withMonitor (withFaults h (raisedOf (h .faults) (codeOf Timeout))) stopped)
+    h
+
+-- a measurement, and the static bit set where bit 5 holds after it
+unfoldable pub measuredOf : Head → ℤ → Head
+measuredOf h m =
+    withTargets (withMeasurement h (movedOf m (h .measurement))) (settledOf (h .stored .values) (movedOf m (h .measurement)) (h .targets))
+
+-- the key of this weight, 1 left, 2 star, 4 up, is newly pressed
+unfoldable pub pressedOf : ℕ → ℕ → ℕ → Bool
+pressedOf keys before weight = eqb (keys / weight % 2) 1 && eqb (before / weight % 2) 0
+
+-- left newly pressed acknowledges a pending error, else calibrates if 05h is 1
+unfoldable pub leftOf : Bool → Head → Head
+leftOf on h =
+    cond on
+    (cond (not (eqb (h .faults .pending) 0)) (withFaults h (withPending (h .faults) 0))
+    (cond (eqb (valueAt (h .stored .values) calibrationKeyPlace) 1)
+    (withMeasurement h (calibratedOf (h .stored .values) (h .measurement)))
+    h))
+    h
+
+-- up newly pressed switches incremental if 35h is 1
+unfoldable pub upOf : Bool → Head → Head
+upOf on h =
+    cond (on && eqb (valueAt (h .stored .values) incrementalKeyPlace) 1) (withMeasurement h (switchedOf (h .measurement))) h
+
+-- left is taken before up
+unfoldable pub keyedOf : Head → ℕ → Head
+keyedOf h keys = upOf (pressedOf keys (h .keys) 4) (leftOf (pressedOf keys (h .keys) 1) (withKeys h keys))

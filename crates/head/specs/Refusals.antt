@@ -1,0 +1,14 @@
+-- The numbers of the refusals (document 01, "The line, and calls refused").
+-- Assumes nothing.
+use Prim.Native.Nat.{ℕ}
+use Rattle.head.specs.declared.refusal.Refusal.{Refusal}
+use Rattle.head.specs.declared.refusal.Refusal.the-variants.{Node, Full, NoHead, OutOfReach, Keys, Space, Malformed}
+
+abbrev pub refusalOf : Refusal → ℕ
+refusalOf Node = 1
+refusalOf Full = 2
+refusalOf NoHead = 3
+refusalOf OutOfReach = 4
+refusalOf Keys = 5
+refusalOf Space = 6
+refusalOf Malformed = 20

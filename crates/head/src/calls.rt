@@ -1,0 +1,188 @@
+// The calls on a head. Each looks first whether the head handed in is well-formed, then refuses by the document's numbers, then works.
+use crate::hear;
+use crate::moves;
+use crate::refusal::Refusal;
+use effects::restart;
+use state::parts::Head;
+use state::wellformed;
+ghost use mathlib.Core.Path.{_≡_};
+ghost use mathlib.Core.Bool.{Bool};
+ghost use Prim.Native.Nat.{_≤_};
+ghost use lib.ListN.{length};
+ghost use Rattle.effects.specs.Restart.{freshOf};
+ghost use Rattle.head.specs.Calls.{nodeFits, factoryOf, madeOf, doneWith, refusedWith, laidOn, byteOf, byteSpaceOf, tickOf, measureOf, keysOf, powerOf};
+
+pub enum Answer {
+    Done,
+    Refused(Refusal),
+}
+
+#[repr(C)]
+pub struct Called {
+    pub head: Head,
+    pub answer: Answer,
+}
+
+pub enum Heard {
+    Replies(usize),
+    Refused(Refusal),
+}
+
+#[repr(C)]
+pub struct Fed {
+    pub head: Head,
+    pub heard: Heard,
+}
+
+// The head as the factory delivers it, at 31.
+pub fn factory() -> Head
+    ensures { λ r. ⌜ r ≡ factoryOf ⌝ }
+{
+    restart::fresh(31)
+}
+
+// Whether a number may be a node number.
+pub fn node_fits(node: u32) -> bool
+    ensures { λ r. ⌜ r ≡ nodeFits node ⌝ }
+{
+    rows::range::fits_at(0, node)
+}
+
+// A head with a node number.
+pub fn make(node: u32) -> Called
+    ensures { λ r. ⌜ r ≡ madeOf node ⌝ }
+{
+    if node_fits(node) {
+        return Called {
+            head: restart::fresh(node),
+            answer: Answer::Done,
+        };
+    }
+    Called {
+        head: factory(),
+        answer: Answer::Refused(Refusal::Node),
+    }
+}
+
+// A reply at the start of the space.
+pub fn lay(space: &mut [u8], x: [u8; 10])
+    ensures { λ r. ⌜ now (space .exit) ≡ laidOn (now (space .entry)) x ⌝ }
+{
+    if space.len() < 10 {
+        return;
+    }
+    let mut i: usize = 0;
+    while i < 10 {
+        space[i] = x[i];
+        i += 1;
+    }
+}
+
+// A byte, with lent reply space.
+pub fn byte(h: Head, b: u8, at: u32, space: &mut [u8]) -> Fed
+    ensures { λ r. ⌜ r ≡ byteOf h b at (length (now (space .entry))) ⌝ }
+    ensures { λ r. ⌜ now (space .exit) ≡ byteSpaceOf h b at (now (space .entry)) ⌝ }
+{
+    if wellformed::wellformed(h) {
+        if space.len() < 10 {
+            return Fed {
+                head: h,
+                heard: Heard::Refused(Refusal::Space),
+            };
+        }
+        let s = hear::step(h, b, at);
+        let n = s.head;
+        if s.replied {
+            let x = s.reply;
+            lay(space, x);
+            return Fed {
+                head: n,
+                heard: Heard::Replies(1),
+            };
+        }
+        return Fed {
+            head: n,
+            heard: Heard::Replies(0),
+        };
+    }
+    Fed {
+        head: h,
+        heard: Heard::Refused(Refusal::Malformed),
+    }
+}
+
+fn done(h: Head) -> Called
+    ensures { λ r. ⌜ r ≡ doneWith h ⌝ }
+{
+    Called {
+        head: h,
+        answer: Answer::Done,
+    }
+}
+
+fn refused(h: Head, why: Refusal) -> Called
+    ensures { λ r. ⌜ r ≡ refusedWith h why ⌝ }
+{
+    Called {
+        head: h,
+        answer: Answer::Refused(why),
+    }
+}
+
+pub fn tick(h: Head, at: u32) -> Called
+    ensures { λ r. ⌜ r ≡ tickOf h at ⌝ }
+{
+    if wellformed::wellformed(h) {
+        return done(moves::ticked(h, at));
+    }
+    refused(h, Refusal::Malformed)
+}
+
+pub fn measure(h: Head, m: i32) -> Called
+    ensures { λ r. ⌜ r ≡ measureOf h m ⌝ }
+{
+    if wellformed::wellformed(h) {
+        if wellformed::in_reach(m) {
+            return done(moves::measured(h, m));
+        }
+        return refused(h, Refusal::OutOfReach);
+    }
+    refused(h, Refusal::Malformed)
+}
+
+pub fn keys(h: Head, state: u32) -> Called
+    ensures { λ r. ⌜ r ≡ keysOf h state ⌝ }
+{
+    if wellformed::wellformed(h) {
+        if state <= 7 {
+            return done(moves::keyed(h, state));
+        }
+        return refused(h, Refusal::Keys);
+    }
+    refused(h, Refusal::Malformed)
+}
+
+pub fn power(h: Head) -> Called
+    ensures { λ r. ⌜ r ≡ powerOf h ⌝ }
+{
+    if wellformed::wellformed(h) {
+        return done(restart::restarted(h));
+    }
+    refused(h, Refusal::Malformed)
+}
+
+// The node number in force, which a new 00h changes only at a restart.
+pub fn number_in_force(h: Head) -> u32
+    ensures { λ r. ⌜ r ≡ h .stored .number ⌝ }
+{
+    let s = h.stored;
+    s.number
+}
+
+// The baud setting in force.
+pub fn baud_in_force(h: Head) -> u32
+    ensures { λ r. ⌜ r ≡ h .stored .baud ⌝ }
+{
+    let s = h.stored;
+    s.baud
+}

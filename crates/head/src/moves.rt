@@ -1,0 +1,106 @@
+// What a tick, a measurement and a key state do to a head.
+use crate::hear;
+use effects::aim;
+use effects::errors;
+use effects::measure;
+use effects::restart;
+use state::parts::At;
+use state::parts::Head;
+use wire::fault::Fault;
+ghost use mathlib.Core.Path.{_≡_};
+ghost use mathlib.Core.Bool.{Bool};
+ghost use Prim.Native.Nat.{_<_};
+ghost use Rattle.head.specs.Moves.{overdueOf, tickedOf, measuredOf, pressedOf, leftOf, upOf, keyedOf};
+
+// Whether the bus timeout has run out: 02h above 0 and at least 100 times 02h ms.
+fn overdue(timeout: u32, elapsed: u32) -> bool
+    ensures { λ r. ⌜ r ≡ overdueOf timeout elapsed ⌝ }
+{
+    (0 < timeout) & (100 * (timeout as u64) <= elapsed as u64)
+}
+
+// A tick raises the timeout once, and stops the monitor.
+pub fn ticked(h: Head, at: u32) -> Head
+    ensures { λ r. ⌜ r ≡ tickedOf h at ⌝ }
+{
+    let s = h.stored;
+    let v = s.values;
+    let m = h.monitor;
+    let late = overdue(v[At::TIMEOUT], hear::elapsed(at, m.since));
+    if m.running & late {
+        let mut n = h;
+        n.faults = errors::raised(h.faults, Fault::TIMEOUT);
+        n.monitor = restart::stopped_monitor();
+        return n;
+    }
+    h
+}
+
+// A measurement; the static bit is set where status bit 5 holds after it.
+pub fn measured(h: Head, m: i32) -> Head
+    ensures { λ r. ⌜ r ≡ measuredOf h m ⌝ }
+{
+    let s = h.stored;
+    let v = s.values;
+    let g = measure::moved(m, h.measurement);
+    let mut n = h;
+    n.measurement = g;
+    n.targets = aim::settled(v, g, h.targets);
+    n
+}
+
+// The key of this weight is down now and was not before.
+fn pressed(keys: u32, before: u32, weight: u32) -> bool
+    requires { ⌜ 0 < weight ⌝ }
+    ensures { λ r. ⌜ r ≡ pressedOf keys before weight ⌝ }
+{
+    (keys / weight % 2 == 1) & (before / weight % 2 == 0)
+}
+
+// Left, where it is newly pressed, acknowledges a pending error, else calibrates if 05h is 1.
+fn left(on: bool, h: Head) -> Head
+    ensures { λ r. ⌜ r ≡ leftOf on h ⌝ }
+{
+    let s = h.stored;
+    let v = s.values;
+    let f = h.faults;
+    let mut n = h;
+    if on {
+        if f.pending != 0 {
+            let mut e = f;
+            e.pending = 0;
+            n.faults = e;
+            return n;
+        }
+        if v[At::CALIBRATION_KEY] == 1 {
+            n.measurement = measure::calibrated(v, h.measurement);
+            return n;
+        }
+        return n;
+    }
+    n
+}
+
+// Up, where it is newly pressed, switches incremental measurement if 35h is 1.
+fn up(on: bool, h: Head) -> Head
+    ensures { λ r. ⌜ r ≡ upOf on h ⌝ }
+{
+    let s = h.stored;
+    let v = s.values;
+    let mut n = h;
+    if on & (v[At::INCREMENTAL_KEY] == 1) {
+        n.measurement = measure::switched(h.measurement);
+        return n;
+    }
+    n
+}
+
+// A key state: left is taken before up, each when newly pressed.
+pub fn keyed(h: Head, keys: u32) -> Head
+    ensures { λ r. ⌜ r ≡ keyedOf h keys ⌝ }
+{
+    let before = h.keys;
+    let mut n = h;
+    n.keys = keys;
+    up(pressed(keys, before, 4), left(pressed(keys, before, 1), n))
+}

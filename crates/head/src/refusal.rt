@@ -1,0 +1,44 @@
+// Why a call is refused.
+ghost use mathlib.Core.Path.{_≡_};
+ghost use Rattle.head.specs.Refusals.{refusalOf};
+
+pub enum Refusal {
+    Node,
+    Full,
+    NoHead,
+    OutOfReach,
+    Keys,
+    Space,
+    Malformed,
+}
+
+impl Refusal {
+    pub const NODE: u32 = 1;
+
+    pub const FULL: u32 = 2;
+
+    pub const NO_HEAD: u32 = 3;
+
+    pub const OUT_OF_REACH: u32 = 4;
+
+    pub const KEYS: u32 = 5;
+
+    pub const SPACE: u32 = 6;
+
+    pub const MALFORMED: u32 = 20;
+
+    // The document's number.
+    pub fn number(self) -> u32
+        ensures { λ r. ⌜ r ≡ refusalOf self ⌝ }
+    {
+        match self {
+            Refusal::Node => Refusal::NODE,
+            Refusal::Full => Refusal::FULL,
+            Refusal::NoHead => Refusal::NO_HEAD,
+            Refusal::OutOfReach => Refusal::OUT_OF_REACH,
+            Refusal::Keys => Refusal::KEYS,
+            Refusal::Space => Refusal::SPACE,
+            Refusal::Malformed => Refusal::MALFORMED,
+        }
+    }
+}
