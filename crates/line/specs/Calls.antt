@@ -1,0 +1,97 @@
+-- The calls on a line and their refusals (document 01, "The line, and calls refused").
+-- Assumes nothing.
+use Prim.Native.Nat.{ℕ, _+_}
+use mathlib.Core.Bool.{Bool, cond, _&&_}
+use mathlib.Core.List.{List, [], _∷_}
+use lib.Dec.{leb, ltb}
+use lib.IntN.{ℤ}
+use lib.ListN.{length, getD, set, replicate}
+use Rattle.state.specs.declared.parts.Head.{Head}
+use Rattle.state.specs.Wellformed.{inReachOf}
+use Rattle.effects.specs.Restart.{restartedOf, freshOf}
+use Rattle.head.specs.declared.refusal.Refusal.{Refusal}
+use Rattle.head.specs.declared.refusal.Refusal.the-variants.{Node, Full, NoHead, OutOfReach, Keys, Space, Malformed}
+use Rattle.head.specs.declared.calls.Answer.the-variants as answer
+use Rattle.head.specs.declared.calls.Heard.the-variants as heard
+use Rattle.head.specs.Moves.{measuredOf, keyedOf}
+use Rattle.head.specs.Calls.{factoryOf, nodeFits, laidOn}
+use Rattle.line.specs.declared.calls.Line.{Line}
+use Rattle.line.specs.declared.calls.Called.{Called}
+use Rattle.line.specs.declared.calls.Fed.{Fed}
+use Rattle.line.specs.Round.{each, allFit, steppedBy, tickedAt, repliesOf}
+
+-- a call that was done, and one that was refused: the line is as it was
+abbrev pub doneWith : Line → Called
+doneWith l = record { line = l; answer = answer.Done }
+
+abbrev pub refusedWith : Line → Refusal → Called
+refusedWith l why = record { line = l; answer = answer.Refused why }
+
+-- a line with no head; what stands in a place past the count does not matter
+unfoldable pub emptyOf : Line
+emptyOf = record { heads = replicate 8 factoryOf; count = 0 }
+
+-- refusal 20: over eight heads, or a head below the count malformed
+unfoldable pub fitsOf : Line → Bool
+fitsOf l = leb (l .count) 8 && allFit (l .count) (l .heads)
+
+abbrev pub headAt : Line → ℕ → Head
+headAt l i = getD (l .heads) i factoryOf
+
+-- a head put at a place
+unfoldable pub placedOf : Line → ℕ → Head → Line
+placedOf l i h = record { heads = set (l .heads) i h; count = l .count }
+
+-- grown by a head: 20, then 2 for the ninth head, then 1 for a node number not 1..127
+abbrev pub grownBy : Line → ℕ → Line
+grownBy l node = record { heads = set (l .heads) (l .count) (freshOf node); count = l .count + 1 }
+
+unfoldable pub growOf : Line → ℕ → Called
+growOf l node =
+    cond (fitsOf l)
+    (cond (ltb (l .count) 8) (cond (nodeFits node) (doneWith (grownBy l node)) (refusedWith l Node)) (refusedWith l Full))
+    (refusedWith l Malformed)
+
+-- a byte: 20, then 6; else every head has heard it, and the answer is the number of replies
+abbrev pub repliesAt : Line → ℕ → ℕ → List (List ℕ)
+repliesAt l b at = repliesOf (l .count) (l .heads) b at
+
+abbrev pub heardBy : Line → ℕ → ℕ → Line
+heardBy l b at = record { heads = each (steppedBy b at) (l .count) (l .heads); count = l .count }
+
+unfoldable pub byteOf : Line → ℕ → ℕ → ℕ → Fed
+byteOf l b at room =
+    cond (fitsOf l)
+    (cond (ltb room 10) (record { line = l; heard = heard.Refused Space })
+    (record { line = heardBy l b at; heard = heard.Replies (length (repliesAt l b at)) }))
+    (record { line = l; heard = heard.Refused Malformed })
+
+-- exactly one reply stands in the first ten bytes and the rest is unchanged; otherwise no byte changes
+abbrev pub laidBy : List (List ℕ) → List ℕ → List ℕ
+laidBy [] space = space
+laidBy (r ∷ []) space = laidOn space r
+laidBy (r ∷ (q ∷ rs)) space = space
+
+unfoldable pub byteSpaceOf : Line → ℕ → ℕ → List ℕ → List ℕ
+byteSpaceOf l b at space =
+    cond (fitsOf l) (cond (ltb (length space) 10) space (laidBy (repliesAt l b at) space)) space
+
+-- a tick reaches every head
+unfoldable pub tickOf : Line → ℕ → Called
+tickOf l at =
+    cond (fitsOf l) (doneWith (record { heads = each (tickedAt at) (l .count) (l .heads); count = l .count })) (refusedWith l Malformed)
+
+-- refusal 3: the head number is not below the count; then 4 and 5
+abbrev pub forHead : Line → ℕ → Called → Called
+forHead l i c = cond (fitsOf l) (cond (ltb i (l .count)) c (refusedWith l NoHead)) (refusedWith l Malformed)
+
+unfoldable pub measureOf : Line → ℕ → ℤ → Called
+measureOf l i m =
+    forHead l i (cond (inReachOf m) (doneWith (placedOf l i (measuredOf (headAt l i) m))) (refusedWith l OutOfReach))
+
+unfoldable pub keysOf : Line → ℕ → ℕ → Called
+keysOf l i state =
+    forHead l i (cond (leb state 7) (doneWith (placedOf l i (keyedOf (headAt l i) state))) (refusedWith l Keys))
+
+unfoldable pub powerOf : Line → ℕ → Called
+powerOf l i = forHead l i (doneWith (placedOf l i (restartedOf (headAt l i))))

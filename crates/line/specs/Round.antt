@@ -1,0 +1,55 @@
+-- What the heads of a line do with a byte and with a tick (document 01, "The line, and calls refused"): both reach every head, and each
+-- does what it does alone. Heads do not hear replies.
+-- Assumes nothing.
+use Prim.Native.Nat.{ℕ, zero, suc}
+use mathlib.Core.Bool.{Bool, true, cond, _&&_}
+use mathlib.Core.List.{List, [], _∷_, _++_}
+use lib.ListN.{length, replicate}
+use Rattle.state.specs.declared.parts.Head.{Head}
+use Rattle.state.specs.Wellformed.{wellformedOf}
+use Rattle.head.specs.declared.hear.Stepped.{Stepped}
+use Rattle.head.specs.Hear.{stepOf}
+use Rattle.head.specs.Moves.{tickedOf}
+use Rattle.line.specs.declared.round.Round.{Round}
+
+-- f at the first n elements
+abbrev pub each : {A : Type 0} → (A → A) → ℕ → List A → List A
+each f zero xs = xs
+each f (suc n) [] = []
+each f (suc n) (x ∷ xs) = f x ∷ each f n xs
+
+-- the first n heads are well-formed
+abbrev pub allFit : ℕ → List Head → Bool
+allFit zero hs = true
+allFit (suc n) [] = true
+allFit (suc n) (h ∷ hs) = wellformedOf h && allFit n hs
+
+-- a head after a byte, and after a tick
+abbrev pub steppedBy : ℕ → ℕ → Head → Head
+steppedBy b at h = stepOf h b at .head
+
+abbrev pub tickedAt : ℕ → Head → Head
+tickedAt at h = tickedOf h at
+
+-- the reply of a step, if there is one
+abbrev pub saidBy : Stepped → List (List ℕ)
+saidBy s = cond (s .replied) (s .reply ∷ []) []
+
+-- the replies of the first n heads, in the heads' order
+abbrev pub repliesOf : ℕ → List Head → ℕ → ℕ → List (List ℕ)
+repliesOf zero hs b at = []
+repliesOf (suc n) [] b at = []
+repliesOf (suc n) (h ∷ hs) b at = saidBy (stepOf h b at) ++ repliesOf n hs b at
+
+abbrev pub lastOr : List ℕ → List (List ℕ) → List ℕ
+lastOr d [] = d
+lastOr d (r ∷ rs) = lastOr r rs
+
+unfoldable pub roundOf : ℕ → List Head → ℕ → ℕ → Round
+roundOf n hs b at =
+    record {
+      heads = each (steppedBy b at) n hs;
+      ok = allFit n hs;
+      replies = length (repliesOf n hs b at);
+      reply = lastOr (replicate 10 0) (repliesOf n hs b at);
+    }

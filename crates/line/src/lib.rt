@@ -1,0 +1,3 @@
+// Up to eight heads on one wire: the calls on a line and their refusals.
+pub mod calls;
+pub mod round;

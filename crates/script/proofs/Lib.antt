@@ -1,0 +1,6 @@
+pub mod Split
+pub mod Reading
+pub mod Orders
+pub mod Told
+pub mod Sent
+pub mod Examples
