@@ -1,0 +1,5 @@
+pub mod Calls
+pub mod Past
+pub mod Run
+pub mod Demand3
+pub mod Cases
