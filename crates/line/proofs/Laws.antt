@@ -8,7 +8,7 @@ use native.Mathlib.Omega.{arith}
 use native.Mathlib.Numerals.{add-one}
 use native.Mathlib.Nat.{le-of-suc-le-suc, not-suc-le-zero}
 use borrow.Author.Tests.{le-ltb, lt-ltb, le-leb, lt-leb, leb-true}
-use lib.Dec.{leb}
+use lib.Dec.{leb, ltb}
 use lib.ListN.{length, getD, set, replicate, length-append, length-map}
 use Rattle.state.specs.declared.parts.Head.{Head}
 use Rattle.state.specs.Wellformed.{wellformedOf}
@@ -44,11 +44,16 @@ each-length f (suc i) [] = refl
 each-length f (suc i) (x ∷ xs) = rw (each-length f i xs)
 
 -- each of the first n elements is what f makes of it alone
-pub each-here : {A : Type 0} (f : A → A) (d : A) (i n : ℕ) (xs : List A) → i < n → i < length xs → getD (each f n xs) i d ≡ f (getD xs i d)
+pub each-here : {A : Type 0} (f : A → A) (d : A) (i n : ℕ) (xs : List A) → i < n → i < length xs
+    → getD (each f n xs) i d ≡ f (getD xs i d)
 each-here f d i zero xs p q = absurd (not-suc-le-zero p)
 each-here f d i (suc n) [] p q = absurd (not-suc-le-zero q)
 each-here f d zero (suc n) (x ∷ xs) p q = refl
 each-here f d (suc i) (suc n) (x ∷ xs) p q = each-here f d i n xs (le-of-suc-le-suc p) (le-of-suc-le-suc q)
+
+rest : (a b c : Bool) → (b ≡ true → c ≡ true) → (a && b) ≡ true → (a && c) ≡ true
+rest true b c k e = k e
+rest false b c k e = e
 
 -- the first n heads stay well-formed where each of them does
 pub fit-each : (f : Head → Head) → ((h : Head) → wellformedOf h ≡ true → wellformedOf (f h) ≡ true)
@@ -63,15 +68,13 @@ pub fit-set : (d h : Head) (i n : ℕ) (hs : List Head) → i < n → (wellforme
 fit-set d h i zero hs p k e = refl
 fit-set d h i (suc n) [] p k e = refl
 fit-set d h zero (suc n) (x ∷ xs) p k e = let b = and-eq-true-iff _ _ .0 e in and-eq-true-iff _ _ .1 (k (b .0), b .1)
-fit-set d h (suc i) (suc n) (x ∷ xs) p k e =
-    let b = and-eq-true-iff (wellformedOf x) _ .0 e in
-    and-eq-true-iff (wellformedOf x) _ .1 (b .0, fit-set d h i n xs (le-of-suc-le-suc p) k (b .1))
+fit-set d h (suc i) (suc n) (x ∷ xs) p k e = rest (wellformedOf x) _ _ (fit-set d h i n xs (le-of-suc-le-suc p) k) e
 
 -- one more head, put in the next place
 pub fit-grown : (h : Head) (n : ℕ) (hs : List Head) → wellformedOf h ≡ true → allFit n hs ≡ true → allFit (suc n) (set hs n h) ≡ true
 fit-grown h n [] k e = refl
 fit-grown h zero (x ∷ xs) k e = and-eq-true-iff _ _ .1 (k, refl)
-fit-grown h (suc n) (x ∷ xs) k e = let b = and-eq-true-iff (wellformedOf x) _ .0 e in and-eq-true-iff (wellformedOf x) _ .1 (b .0, fit-grown h n xs k (b .1))
+fit-grown h (suc n) (x ∷ xs) k e = rest (wellformedOf x) _ _ (fit-grown h n xs k) e
 
 pub fit-turn : (d : Head) (i : ℕ) (hs : List Head) → i < length hs → allFit (suc i) hs ≡ (allFit i hs && wellformedOf (getD hs i d))
 fit-turn d i [] p = absurd (not-suc-le-zero p)
@@ -154,13 +157,13 @@ getD-either d e (suc i) (x ∷ xs) p = getD-either d e i xs (le-of-suc-le-suc p)
 -- a call that names a head: refused as the line does not fit, refused as there is no such head, and let through
 module _ (l : Line) (i : ℕ) (x : Called) {v : Bool} (e : v ≡ fitsOf l) where
   pub named-malformed : v ≡ false → refusedWith l Malformed ≡ forHead l i x
-  named-malformed t = rw (sym e ∙ t)
+  named-malformed f = rw (sym e ∙ f)
 
-  pub named-none : v ≡ true → l .count ≤ i → refusedWith l NoHead ≡ forHead l i x
-  named-none t p = rw (sym e ∙ t, le-ltb _ _ p)
+  pub named-none : v ≡ true → {w : Bool} → w ≡ ltb i (l .count) → w ≡ false → refusedWith l NoHead ≡ forHead l i x
+  named-none f h p = rw (sym e ∙ f, sym h ∙ p)
 
-  pub named-there : v ≡ true → i < l .count → x ≡ forHead l i x
-  named-there t p = rw (sym e ∙ t, lt-ltb _ _ p)
+  pub named-there : v ≡ true → {w : Bool} → w ≡ ltb i (l .count) → w ≡ true → x ≡ forHead l i x
+  named-there f h p = rw (sym e ∙ f, sym h ∙ p)
 
 -- a byte for a line: the two refusals, one reply, and none or more than one
 abbrev unfed : Line → Refusal → Fed

@@ -28,7 +28,8 @@ use Rattle.line.specs.declared.calls.Line.{Line}
 use Rattle.line.specs.declared.calls.Called.{Called}
 use Rattle.line.specs.declared.calls.Fed.{Fed}
 use Rattle.line.specs.Round.{each, allFit, steppedBy, tickedAt}
-use Rattle.line.specs.Calls.{emptyOf, fitsOf, doneWith, refusedWith, headAt, placedOf, grownBy, growOf, repliesAt, heardBy, byteOf, laidBy, byteSpaceOf, tickOf, measureOf, keysOf, powerOf}
+use Rattle.line.specs.Calls.{emptyOf, fitsOf, doneWith, refusedWith, headAt, placedOf, grownBy, growOf}
+use Rattle.line.specs.Calls.{repliesAt, heardBy, byteOf, laidBy, byteSpaceOf, tickOf, measureOf, keysOf, powerOf}
 use Rattle.line.proofs.Laws.{each-here, each-length, fit-each, fit-set, fit-grown, fits-small, fits-heads, fits-eight}
 
 -- ---- which refusal, exactly when
@@ -107,7 +108,8 @@ abbrev Hold : Tests → Type 0
 Hold [] = Unit
 Hold (t ∷ ts) = (t .0 ≡ true) × Hold ts
 
-either : {C : Type 0} (P : C → Type 0) (f : Refusal → C) (x : C) (ts : Tests) → ((why : Refusal) → P (f why)) → (Hold ts → P x) → P (guarded f ts x)
+either : {C : Type 0} (P : C → Type 0) (f : Refusal → C) (x : C) (ts : Tests)
+    → ((why : Refusal) → P (f why)) → (Hold ts → P x) → P (guarded f ts x)
 either P f x [] r d = d tt
 either P f x ((true, why) ∷ ts) r d = either P f x ts r (λ h. d (refl, h))
 either P f x ((false, why) ∷ ts) r d = r why
@@ -139,13 +141,14 @@ module _ (l : Line) where
   -- and a refused byte the space too
   pub byte-refused : (b at : ℕ) (space : List ℕ) (why : Refusal) → byteOf l b at (length space) .heard ≡ heard.Refused why
       → (byteOf l b at (length space) .line ≡ l) × (byteSpaceOf l b at space ≡ space)
-  byte-refused b at space why = rw (byte-when l b at (length space), space-when l b at space) (go (heardBy l b at) _ _ (byteTests l (length space))) where
-    go : (k : Line) (n : ℕ) (laid : List ℕ) (ts : Tests)
-        → guarded (unfed l) ts (record { line = k; heard = heard.Replies n }) .heard ≡ heard.Refused why
-        → (guarded (unfed l) ts (record { line = k; heard = heard.Replies n }) .line ≡ l) × (guarded (λ w. space) ts laid ≡ space)
-    go k n laid [] e = let z : _≡_ {A = ℕ} 0 1 = cc in absurd (omega arith)
-    go k n laid ((true, w) ∷ ts) e = go k n laid ts e
-    go k n laid ((false, w) ∷ ts) e = (refl, refl)
+  byte-refused b at space why =
+      rw (byte-when l b at (length space), space-when l b at space) (go (heardBy l b at) _ _ (byteTests l (length space))) where
+        go : (k : Line) (n : ℕ) (laid : List ℕ) (ts : Tests)
+            → guarded (unfed l) ts (record { line = k; heard = heard.Replies n }) .heard ≡ heard.Refused why
+            → (guarded (unfed l) ts (record { line = k; heard = heard.Replies n }) .line ≡ l) × (guarded (λ w. space) ts laid ≡ space)
+        go k n laid [] e = let z : _≡_ {A = ℕ} 0 1 = cc in absurd (omega arith)
+        go k n laid ((true, w) ∷ ts) e = go k n laid ts e
+        go k n laid ((false, w) ∷ ts) e = (refl, refl)
 
 -- ---- a call that names a head leaves every other head and the count as they were
 abbrev pub OnlyAt : Line → ℕ → Line → Type 0
@@ -234,7 +237,8 @@ module _ (l : Line) where
   kept : (ts : Tests) (k : Line) → (Hold ts → Kept l k) → Kept l (guarded (refusedWith l) ts (doneWith k) .line)
   kept ts k d = either (λ c. Kept l (c .line)) (refusedWith l) (doneWith k) ts (λ why. (λ f. f, refl)) d
 
-  placed-kept : (i : ℕ) (h : Head) → ltb i (l .count) ≡ true → (wellformedOf (headAt l i) ≡ true → wellformedOf h ≡ true) → Kept l (placedOf l i h)
+  placed-kept : (i : ℕ) (h : Head) → ltb i (l .count) ≡ true → (wellformedOf (headAt l i) ≡ true → wellformedOf h ≡ true)
+      → Kept l (placedOf l i h)
   unfolding placedOf
   placed-kept i h p k =
       (refit l (set (l .heads) i h) (fit-set factoryOf h i (l .count) (l .heads) (ltb-true _ _ p) k), length-set (l .heads) i h)
@@ -244,22 +248,25 @@ module _ (l : Line) where
     grown : Hold (growTests l node) → Kept l (grownBy l node)
     grown h =
         let p : l .count < 8 = ltb-true _ _ (h .1 .0) in
-        let q : l .count + 1 ≤ 8 = omega arith in (
-          λ f. fits-eight (grownBy l node) q ∙ rw add-one (fit-grown (freshOf node) (l .count) (l .heads) (fresh-fits node (h .1 .1 .0)) (fits-heads l f)),
+        let q : l .count + 1 ≤ 8 = omega arith in
+        let n = fresh-fits node (h .1 .1 .0) in (
+          λ f. fits-eight (grownBy l node) q ∙ rw add-one (fit-grown (freshOf node) (l .count) (l .heads) n (fits-heads l f)),
           length-set (l .heads) (l .count) (freshOf node),
         )
+
+  each-kept : (g : Head → Head) → ((h : Head) → wellformedOf h ≡ true → wellformedOf (g h) ≡ true)
+      → Kept l (record { heads = each g (l .count) (l .heads); count = l .count })
+  each-kept g k = (refit l _ (fit-each g k (l .count) (l .heads)), each-length g (l .count) (l .heads))
 
   pub byte-keeps : (b at room : ℕ) → Kept l (byteOf l b at room .line)
   byte-keeps b at room =
       rw (byte-when l b at room)
       (either (λ c. Kept l (c .line)) (unfed l) _ (byteTests l room) (λ why. (λ f. f, refl))
-      (λ h. (refit l _ (fit-each (steppedBy b at) (λ x. step-fits x b at) (l .count) (l .heads)), each-length (steppedBy b at) (l .count) (l .heads))))
+      (λ h. each-kept (steppedBy b at) (λ x. step-fits x b at)))
 
   pub tick-keeps : (at : ℕ) → Kept l (tickOf l at .line)
   tick-keeps at =
-      rw (tick-when l at)
-      (kept (tickTests l) (tickedBy l at)
-      (λ h. (refit l _ (fit-each (tickedAt at) (λ x. tick-fits x at) (l .count) (l .heads)), each-length (tickedAt at) (l .count) (l .heads))))
+      rw (tick-when l at) (kept (tickTests l) (tickedBy l at) (λ h. each-kept (tickedAt at) (λ x. tick-fits x at)))
 
   pub measure-keeps : (i : ℕ) (m : ℤ) → Kept l (measureOf l i m .line)
   measure-keeps i m =

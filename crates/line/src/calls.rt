@@ -10,6 +10,7 @@ use state::parts::Head;
 use state::wellformed;
 ghost use mathlib.Core.Path.{_≡_};
 ghost use mathlib.Core.Bool.{Bool};
+ghost use lib.Dec.{ltb};
 ghost use lib.ListN.{length};
 ghost use Rattle.line.specs.Calls.{emptyOf, fitsOf, doneWith, refusedWith, headAt, placedOf, growOf, byteOf, byteSpaceOf, tickOf, measureOf, keysOf, powerOf};
 
@@ -78,6 +79,13 @@ fn refused(l: Line, why: Refusal) -> Called
         line: l,
         answer: Answer::Refused(why),
     }
+}
+
+// Whether there is a head with this number.
+fn has(l: Line, i: usize) -> bool
+    ensures { λ r. ⌜ r ≡ ltb i (l .count) ⌝ }
+{
+    i < l.count
 }
 
 // The head at a place; at no place, the factory head.
@@ -183,7 +191,7 @@ pub fn measure(l: Line, i: usize, m: i32) -> Called
     ensures { λ r. ⌜ r ≡ measureOf l i m ⌝ }
 {
     if fits(l) {
-        if i < l.count {
+        if has(l, i) {
             if wellformed::in_reach(m) {
                 return done(placed(l, i, moves::measured(head_at(l, i), m)));
             }
@@ -199,7 +207,7 @@ pub fn keys(l: Line, i: usize, state: u32) -> Called
     ensures { λ r. ⌜ r ≡ keysOf l i state ⌝ }
 {
     if fits(l) {
-        if i < l.count {
+        if has(l, i) {
             if state <= 7 {
                 return done(placed(l, i, moves::keyed(head_at(l, i), state)));
             }
@@ -215,7 +223,7 @@ pub fn power(l: Line, i: usize) -> Called
     ensures { λ r. ⌜ r ≡ powerOf l i ⌝ }
 {
     if fits(l) {
-        if i < l.count {
+        if has(l, i) {
             return done(placed(l, i, restart::restarted(head_at(l, i))));
         }
         return refused(l, Refusal::NoHead);

@@ -10,7 +10,7 @@ pub byte-spec : {M : Type 1} → statement M
 byte-spec =
     tie.close
     (tie.spec
-    (λ c κs. c .before .if1 .taken)
+    (λ c κs. search needs)
     (λ c. let g = c .before .before in
     let n = g .before .before in
     let a = n .before .before .args in

@@ -17,22 +17,30 @@ keys-spec =
     (λ c κs. tt)
     (λ c κs. tt)
     (λ c κs. tt)
-    (λ c. let k = c .before .before .before .before .before in
-    let f = k .before .before .before in
-    let a = f .before .args in
-    let r = le-leb _ _ (c .before .before .before .before .if3 .taken) in
-    let d = rw (c .before .placed .ensures, c .before .before .keyed .ensures, c .before .before .before .head-at .ensures) at (c .done .ensures) in
-    d ∙ rw r (named-there (a .l) (a .i) _ (f .fits2 .ensures) (k .before .before .if1 .taken) (k .if2 .taken)))
     (λ c κs. tt)
-    (λ c. let k = c .before .before in
-    let f = k .before .before .before in
+    (λ c. let k = c .before .before .before .before in
+    let t = k .before .before in
+    let f = t .before .before in
     let a = f .before .args in
-    let r = lt-leb _ _ (c .before .if3 .left) in
-    c .refused .ensures ∙ rw r (named-there (a .l) (a .i) _ (f .fits2 .ensures) (k .before .before .if1 .taken) (k .if2 .taken)))
+    let r = le-leb _ _ (k .if3 .taken) in
+    let h = rw (c .before .before .before .head-at .ensures) at (c .before .before .keyed .ensures) in
+    c .done .ensures
+    ∙ rw (c .before .placed .ensures, h, r)
+    (named-there (a .l) (a .i) _ (f .fits2 .ensures) (t .before .if1 .taken) (t .has .ensures) (k .before .if2 .taken)))
     (λ c κs. tt)
-    (λ c. let f = c .before .before .before .before in
+    (λ c. let k = c .before in
+    let t = k .before .before in
+    let f = t .before .before in
     let a = f .before .args in
-    c .refused2 .ensures ∙ named-none (a .l) (a .i) _ (f .fits2 .ensures) (c .before .before .before .if1 .taken) (c .before .if2 .left))
+    let r = lt-leb _ _ (k .if3 .left) in
+    c .refused .ensures
+    ∙ rw r (named-there (a .l) (a .i) _ (f .fits2 .ensures) (t .before .if1 .taken) (t .has .ensures) (k .before .if2 .taken)))
+    (λ c κs. tt)
+    (λ c. let t = c .before .before in
+    let f = t .before .before in
+    let a = f .before .args in
+    c .refused2 .ensures ∙ named-none (a .l) (a .i) _ (f .fits2 .ensures) (t .before .if1 .taken) (t .has .ensures) (c .before .if2 .left))
     (λ c κs. tt)
     (λ c. let f = c .before .before in
-    c .refused3 .ensures ∙ named-malformed (f .before .args .l) (f .before .args .i) _ (f .fits2 .ensures) (c .before .if1 .left)))
+    let a = f .before .args in
+    c .refused3 .ensures ∙ named-malformed (a .l) (a .i) _ (f .fits2 .ensures) (c .before .if1 .left)))

@@ -16,15 +16,21 @@ power-spec =
     (λ c κs. tt)
     (λ c κs. tt)
     (λ c κs. tt)
-    (λ c. let k = c .before .before .before .before in
-    let f = k .before .before .before in
-    let a = f .before .args in
-    let d = rw (c .before .placed .ensures, c .before .before .restarted .ensures, c .before .before .before .head-at .ensures) at (c .done .ensures) in
-    d ∙ named-there (a .l) (a .i) _ (f .fits2 .ensures) (k .before .before .if1 .taken) (k .if2 .taken))
     (λ c κs. tt)
-    (λ c. let f = c .before .before .before .before in
+    (λ c. let k = c .before .before .before .before in
+    let t = k .before in
+    let f = t .before .before in
     let a = f .before .args in
-    c .refused .ensures ∙ named-none (a .l) (a .i) _ (f .fits2 .ensures) (c .before .before .before .if1 .taken) (c .before .if2 .left))
+    let h = rw (c .before .before .before .head-at .ensures) at (c .before .before .restarted .ensures) in
+    c .done .ensures
+    ∙ rw (c .before .placed .ensures, h)
+    (named-there (a .l) (a .i) _ (f .fits2 .ensures) (t .before .if1 .taken) (t .has .ensures) (k .if2 .taken)))
+    (λ c κs. tt)
+    (λ c. let t = c .before .before in
+    let f = t .before .before in
+    let a = f .before .args in
+    c .refused .ensures ∙ named-none (a .l) (a .i) _ (f .fits2 .ensures) (t .before .if1 .taken) (t .has .ensures) (c .before .if2 .left))
     (λ c κs. tt)
     (λ c. let f = c .before .before in
-    c .refused2 .ensures ∙ named-malformed (f .before .args .l) (f .before .args .i) _ (f .fits2 .ensures) (c .before .if1 .left)))
+    let a = f .before .args in
+    c .refused2 .ensures ∙ named-malformed (a .l) (a .i) _ (f .fits2 .ensures) (c .before .if1 .left)))
