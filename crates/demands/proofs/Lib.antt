@@ -1,3 +1,11 @@
 pub mod Marked
 pub mod Refusals
 pub mod Answers
+pub mod Telegram
+pub mod Ear
+pub mod Heads
+pub mod Sim
+pub mod Range
+pub mod One
+pub mod Back
+pub mod Proved

@@ -14,7 +14,7 @@ use Rattle.wire.specs.Telegram.{fieldsOf}
 use Rattle.rows.specs.Table.{rowOf, address}
 use Rattle.state.specs.declared.parts.Head.{Head}
 use Rattle.line.specs.Calls.{fitsOf}
-use Rattle.demands.specs.Calls.{Call, Calls, _▸_, byte, power}
+use Rattle.demands.specs.Calls.{Call, Calls, _▸_, byte, power, Bytes}
 use Rattle.demands.specs.Past.{count, since, event, heard, touched, lockedBy, value, inForce, isOpen}
 use Rattle.demands.specs.Run.{run, at, repliesTo, answers, emptied, readOf}
 
@@ -60,7 +60,8 @@ pub record Demand3 : Type 0 where
   pub eight : (cs : Calls) → (run cs .count ≡ count cs) × (count cs ≤ 8) × (fitsOf (run cs) ≡ true)
   -- the account's number in force is the one that the head hands out
   pub in-force : (cs : Calls) (k : ℕ) → k < count cs → at cs k .stored .number ≡ inForce cs k
-  pub holds : (cs : Calls) (k r : ℕ) → k < count cs → r < 39 → Holds cs k r
+  -- for bytes of eight bits, as the type of the byte call has them
+  pub holds : (cs : Calls) (k r : ℕ) → Bytes cs → k < count cs → r < 39 → Holds cs k r
   pub one-reply : (cs : Calls) (b t : ℕ) → Differ cs → length (repliesTo cs b t) ≤ 1
   pub one-change : (cs : Calls) (b t s : ℕ) → Differ cs → NoBroadcast cs b t s
       → (i j : ℕ) → i < count cs → j < count cs → i ≢ j → Unchanged cs b t s i ⊎ Unchanged cs b t s j

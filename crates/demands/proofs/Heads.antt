@@ -1,0 +1,173 @@
+-- A line after a call: it still fits, it has the heads that the account counts, and at each place stands what the call makes of the head
+-- there alone. By cases on the tests of the call.
+-- Assumes nothing.
+use Prim.Native.Nat.{ℕ, suc, _<_, _≤_}
+use mathlib.Core.Path.{_≡_, refl, sym}
+use mathlib.Core.Bool.{Bool, true, false, cond, _&&_, and-eq-true-iff}
+use native.Mathlib.Numerals.{add-one}
+use native.Mathlib.Omega.{arith}
+use borrow.Author.Tests.{ltb-true, leb-true, eqb-true, eqb-false, le-leb, leb-false, lt-ltb}
+use lib.Dec.{leb, ltb, eqb}
+use lib.IntN.{ℤ}
+use lib.ListN.{length, set, getD}
+use lib.Seq.{getD-set-same, getD-set-other}
+use Rattle.rows.proofs.Laws.{node-limits, node-fits}
+use Rattle.state.specs.declared.parts.Head.{Head}
+use Rattle.state.specs.Wellformed.{inReachOf}
+use Rattle.effects.specs.Restart.{restartedOf, freshOf}
+use Rattle.head.specs.declared.refusal.Refusal.{Refusal}
+use Rattle.head.specs.declared.refusal.Refusal.the-variants.{Node, Full, NoHead, OutOfReach, Keys}
+use Rattle.head.specs.Hear.{stepOf}
+use Rattle.head.specs.Moves.{tickedOf, measuredOf, keyedOf}
+use Rattle.head.specs.Calls.{factoryOf, nodeFits}
+use Rattle.line.specs.declared.calls.Line.{Line}
+use Rattle.line.specs.declared.calls.Called.{Called}
+use Rattle.line.specs.declared.calls.Fed.{Fed}
+use Rattle.line.specs.Calls.{fitsOf, headAt, doneWith, refusedWith, placedOf, grownBy, growOf, byteOf, tickOf, measureOf, keysOf, powerOf}
+use Rattle.line.proofs.Laws.{fits-small}
+use Rattle.line.proofs.Theorems.{Kept, grow-keeps, byte-keeps, tick-keeps, measure-keeps, keys-keeps, power-keeps, measure-one, keys-one, power-one, tick-alone, byte-alone}
+use Rattle.demands.specs.Calls.{Call, newHead, byte, tick, measure, keys, power}
+use Rattle.demands.specs.Past.{mayAdd, grown, room, makes, cuts}
+use Rattle.demands.specs.Run.{after}
+
+pub after-keeps : (c : Call) (l : Line) → Kept l (after c l)
+unfolding after
+after-keeps (newHead node) l = grow-keeps l node
+after-keeps (byte b t s) l = byte-keeps l b t s
+after-keeps (tick t) l = tick-keeps l t
+after-keeps (measure j m) l = measure-keeps l j m
+after-keeps (keys j s) l = keys-keeps l j s
+after-keeps (power j) l = power-keeps l j
+
+-- ---- how many heads
+same : (a b : Bool) → (a ≡ true → b ≡ true) → (b ≡ true → a ≡ true) → a ≡ b
+same true true p q = refl
+same true false p q = sym (p refl)
+same false true p q = q refl
+same false false p q = refl
+
+node-same : (node : ℕ) → nodeFits node ≡ leb 1 node && leb node 127
+unfolding nodeFits
+node-same node =
+    same _ _ (λ e. let n = node-limits node e in rw (le-leb 1 node (n .0), le-leb node 127 (n .1)))
+    (λ e. let n = and-eq-true-iff (leb 1 node) _ .0 e in node-fits node (leb-true 1 node (n .0)) (leb-true node 127 (n .1)))
+
+-- a new head, by the two tests
+abbrev growBy : Bool → Bool → Line → ℕ → Called
+growBy x y l node = cond x (cond y (doneWith (grownBy l node)) (refusedWith l Node)) (refusedWith l Full)
+
+grow-is : (l : Line) (node : ℕ) → fitsOf l ≡ true → growOf l node ≡ growBy (ltb (l .count) 8) (leb 1 node && leb node 127) l node
+unfolding growOf
+grow-is l node f = rw (f, node-same node)
+
+grow-count : (l : Line) (node : ℕ) → fitsOf l ≡ true → growOf l node .line .count ≡ grown (newHead node) (l .count)
+unfolding grown mayAdd
+grow-count l node f = rw (grow-is l node f) (go (ltb (l .count) 8) (leb 1 node && leb node 127))
+  where
+    go : (x y : Bool) → growBy x y l node .line .count ≡ cond (x && y) (suc (l .count)) (l .count)
+    go true true = add-one (l .count)
+    go true false = refl
+    go false y = refl
+
+-- what holds of both ways of a test holds of it
+either : {A B : Type 0} (f : A → B) (b : Bool) (x y : A) (z : B) → f x ≡ z → f y ≡ z → f (cond b x y) ≡ z
+either f true x y z p q = p
+either f false x y z p q = q
+
+byte-count : (l : Line) (b t s : ℕ) → byteOf l b t s .line .count ≡ l .count
+unfolding byteOf
+byte-count l b t s =
+    either (λ (c : Fed). c .line .count) (fitsOf l) _ _ (l .count) (either (λ (c : Fed). c .line .count) (ltb s 10) _ _ (l .count) refl refl) refl
+
+tick-count : (l : Line) (t : ℕ) → tickOf l t .line .count ≡ l .count
+unfolding tickOf
+tick-count l t = either (λ (c : Called). c .line .count) (fitsOf l) _ _ (l .count) refl refl
+
+pub after-count : (c : Call) (l : Line) → fitsOf l ≡ true → after c l .count ≡ grown c (l .count)
+unfolding after grown
+after-count (newHead node) l f = grow-count l node f
+after-count (byte b t s) l f = byte-count l b t s
+after-count (tick t) l f = tick-count l t
+after-count (measure j m) l f = measure-one l j m .0
+after-count (keys j s) l f = keys-one l j s .0
+after-count (power j) l f = power-one l j .0
+
+-- ---- which head
+-- what a call makes of the head h at place k of n
+unfoldable pub headBy : Call → ℕ → ℕ → Head → Head
+headBy (newHead node) n k h = cond (makes n node k) (freshOf node) h
+headBy (byte b t s) n k h = cond (room s) (stepOf h b t .head) h
+headBy (tick t) n k h = tickedOf h t
+headBy (measure j m) n k h = cond (ltb j n && (inReachOf m && eqb k j)) (measuredOf h m) h
+headBy (keys j s) n k h = cond (ltb j n && (leb s 7 && eqb k j)) (keyedOf h s) h
+headBy (power j) n k h = cond (cuts n j k) (restartedOf h) h
+
+-- a head changed in its place, seen at each place
+set-seen : (l : Line) (j k : ℕ) (g : Head → Head) → j < length (l .heads)
+    → getD (set (l .heads) j (g (headAt l j))) k factoryOf ≡ cond (eqb k j) (g (headAt l k)) (headAt l k)
+set-seen l j k g lt = go (eqb k j) refl
+  where
+    go : (c : Bool) → eqb k j ≡ c → getD (set (l .heads) j (g (headAt l j))) k factoryOf ≡ cond c (g (headAt l k)) (headAt l k)
+    go true e = rw (eqb-true k j e) (getD-set-same (l .heads) j (g (headAt l j)) factoryOf lt)
+    go false e = getD-set-other (l .heads) j k (g (headAt l j)) factoryOf (eqb-false k j e)
+
+byte-short : (l : Line) (b t s k : ℕ) → s < 10 → headAt (byteOf l b t s .line) k ≡ headAt l k
+unfolding byteOf
+byte-short l b t s k p = rw (lt-ltb s 10 p) (either (λ (c : Fed). headAt (c .line) k) (fitsOf l) _ _ (headAt l k) refl refl)
+
+module _ (l : Line) (f : fitsOf l ≡ true) (e : length (l .heads) ≡ 8) where
+  there : (j : ℕ) → j < l .count → j < length (l .heads)
+  there j p = let q : l .count ≤ 8 = fits-small l f in omega arith
+
+  grow-at : (node k : ℕ) → headAt (growOf l node .line) k ≡ headBy (newHead node) (l .count) k (headAt l k)
+  unfolding headBy mayAdd
+  grow-at node k = rw (grow-is l node f) (go (ltb (l .count) 8) refl (leb 1 node && leb node 127))
+    where
+      go : (x : Bool) → ltb (l .count) 8 ≡ x → (y : Bool) → headAt (growBy x y l node .line) k ≡ cond ((x && y) && eqb k (l .count)) (freshOf node) (headAt l k)
+      go true p true = let q : l .count < 8 = ltb-true _ _ p in set-seen l (l .count) k (λ _. freshOf node) (omega arith)
+      go true p false = refl
+      go false p y = refl
+
+  byte-at : (b t s k : ℕ) → k < l .count → headAt (byteOf l b t s .line) k ≡ headBy (byte b t s) (l .count) k (headAt l k)
+  unfolding headBy
+  byte-at b t s k lt = go (room s) refl
+    where
+      go : (x : Bool) → room s ≡ x → headAt (byteOf l b t s .line) k ≡ cond x (stepOf (headAt l k) b t .head) (headAt l k)
+      go true p = byte-alone l f e k lt b t s (leb-true 10 s p)
+      go false p = byte-short l b t s k (leb-false 10 s p)
+
+  -- a call that names a head, by its test
+  named : (j k : ℕ) (x : Bool) (g : Head → Head) (why : Refusal)
+      → headAt (cond (ltb j (l .count)) (cond x (doneWith (placedOf l j (g (headAt l j)))) (refusedWith l why)) (refusedWith l NoHead) .line) k
+      ≡ cond (ltb j (l .count) && (x && eqb k j)) (g (headAt l k)) (headAt l k)
+  unfolding placedOf
+  named j k x g why = go (ltb j (l .count)) refl x
+    where
+      go : (b : Bool) → ltb j (l .count) ≡ b → (x : Bool)
+          → headAt (cond b (cond x (doneWith (placedOf l j (g (headAt l j)))) (refusedWith l why)) (refusedWith l NoHead) .line) k
+          ≡ cond (b && (x && eqb k j)) (g (headAt l k)) (headAt l k)
+      go true p true = set-seen l j k g (there j (ltb-true _ _ p))
+      go true p false = refl
+      go false p x = refl
+
+  measure-at : (j : ℕ) (m : ℤ) (k : ℕ) → headAt (measureOf l j m .line) k ≡ headBy (measure j m) (l .count) k (headAt l k)
+  unfolding measureOf headBy
+  measure-at j m k = rw f (named j k (inReachOf m) (λ h. measuredOf h m) OutOfReach)
+
+  keys-at : (j s k : ℕ) → headAt (keysOf l j s .line) k ≡ headBy (keys j s) (l .count) k (headAt l k)
+  unfolding keysOf headBy
+  keys-at j s k = rw f (named j k (leb s 7) (λ h. keyedOf h s) Keys)
+
+  power-at : (j k : ℕ) → headAt (powerOf l j .line) k ≡ headBy (power j) (l .count) k (headAt l k)
+  unfolding powerOf headBy
+  power-at j k = rw f (named j k true restartedOf NoHead)
+
+  -- a byte and a tick reach the heads that there are
+  pub after-at : (c : Call) (k : ℕ) → k < grown c (l .count) → headAt (after c l) k ≡ headBy c (l .count) k (headAt l k)
+  unfolding after grown headBy
+  after-at (newHead node) k lt = grow-at node k
+  after-at (byte b t s) k lt = byte-at b t s k lt
+  after-at (tick t) k lt = tick-alone l f e k lt t
+  after-at (measure j m) k lt = measure-at j m k
+  after-at (keys j s) k lt = keys-at j s k
+  after-at (power j) k lt = power-at j k
