@@ -9,3 +9,4 @@ pub mod Range
 pub mod One
 pub mod Back
 pub mod Proved
+pub mod Outcomes

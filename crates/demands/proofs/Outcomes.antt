@@ -1,0 +1,119 @@
+-- Two outcomes that a contract allows are equal, for every public function: by one law.
+-- Assumes nothing.
+use mathlib.Core.Path.{_≡_, sym, _∙_}
+use Rattle.demands.specs.Outcomes.{One, One1, One2, One3, One4, One5, Outcomes}
+
+-- both are what the contract names
+one : {A : Type 0} (x : A) → One x
+one x r q e f = e ∙ sym f
+
+pub outcomes : Outcomes
+outcomes =
+    record {
+      wire-check-exclusive-or = λ a. one _;
+      wire-check-sound = λ a. one _;
+      wire-fault-code = λ a. one _;
+      wire-telegram-fields = λ a. one _;
+      wire-telegram-bytes = λ a. one _;
+      wire-word-half = λ a b. one _;
+      wire-word-whole = λ a b c d. one _;
+      wire-word-first = λ a. one _;
+      wire-word-second = λ a. one _;
+      wire-word-third = λ a. one _;
+      wire-word-fourth = λ a. one _;
+      wire-word-high = λ a. one _;
+      wire-word-low = λ a. one _;
+      signed-number = λ a. one _;
+      signed-word = λ a. one _;
+      signed-size = λ a. one _;
+      signed-distance = λ a b. one _;
+      signed-divisor = λ a. one _;
+      signed-rounded = λ a b. one _;
+      signed-difference = λ a. one _;
+      signed-differential = λ a b c. one _;
+      signed-absolute = λ a b c d. one _;
+      signed-relative = λ a b. one _;
+      rows-access-access-of = λ a. one _;
+      rows-access-broadcast = λ a. one _;
+      rows-kind-kind-of = λ a. one _;
+      rows-range-is-signed = λ a. one _;
+      rows-range-reading = λ a b. one _;
+      rows-range-range-of = λ a b. one _;
+      rows-range-fits-at = λ a b. one _;
+      rows-range-all-right = λ a. one _;
+      rows-resets-bus = λ a. one _;
+      rows-resets-resets = λ a b. one _;
+      rows-table-row-of = λ a. one _;
+      rows-table-place-of = λ a. one _;
+      judge-command-command-of = λ a. one _;
+      judge-command-reads = λ a. one _;
+      judge-command-writes = λ a. one _;
+      judge-command-casts = λ a. one _;
+      judge-command-changes = λ a. one _;
+      judge-deed-deed-of = λ a b c d e. one _;
+      judge-judged-judge = λ a b. one _;
+      judge-verdict-verdict-of = λ a b c. one _;
+      state-errors-empty-list = one _;
+      state-errors-remembered = λ a b. one _;
+      state-errors-code-at = λ a b. one _;
+      state-position-position = λ a b. one _;
+      state-position-view = λ a b. one _;
+      state-status-aim = λ a b c. one _;
+      state-status-status = λ a. one _;
+      state-status-within = λ a b c. one _;
+      state-status-difference = λ a b c. one _;
+      state-wellformed-in-reach = λ a. one _;
+      state-wellformed-wellformed = λ a. one _;
+      effects-aim-no-targets = one _;
+      effects-aim-settled = λ a b c. one _;
+      effects-aim-targets-by = λ a b c d. one _;
+      effects-errors-raised = λ a b. one _;
+      effects-errors-counted = λ a b. one _;
+      effects-errors-complained = λ a b. one _;
+      effects-errors-restarted = λ a. one _;
+      effects-errors-faults-by = λ a b c. one _;
+      effects-measure-calibrated = λ a b. one _;
+      effects-measure-switched = λ a. one _;
+      effects-measure-restarted = λ a. one _;
+      effects-measure-moved = λ a b. one _;
+      effects-measure-measurement-by = λ a b c. one _;
+      effects-restart-empty-ear = λ a. one _;
+      effects-restart-stopped-monitor = one _;
+      effects-restart-restarted = λ a. one _;
+      effects-restart-fresh = λ a. one _;
+      effects-store-locked = λ a. one _;
+      effects-store-restarted = λ a. one _;
+      effects-store-stored-by = λ a b. one _;
+      head-calls-factory = one _;
+      head-calls-node-fits = λ a. one _;
+      head-calls-make = λ a. one _;
+      head-calls-lay-space = λ a b. one _;
+      head-calls-byte = λ a b c d. one _;
+      head-calls-byte-space = λ a b c d. one _;
+      head-calls-tick = λ a b. one _;
+      head-calls-measure = λ a b. one _;
+      head-calls-keys = λ a b. one _;
+      head-calls-power = λ a. one _;
+      head-calls-number-in-force = λ a. one _;
+      head-calls-baud-in-force = λ a. one _;
+      head-hear-elapsed = λ a b. one _;
+      head-hear-standing = λ a. one _;
+      head-hear-step = λ a b c. one _;
+      head-moves-ticked = λ a b. one _;
+      head-moves-measured = λ a b. one _;
+      head-moves-keyed = λ a b. one _;
+      head-refusal-number = λ a. one _;
+      head-reply-reply-to = λ a b c. one _;
+      line-calls-empty = one _;
+      line-calls-count = λ a. one _;
+      line-calls-fits = λ a. one _;
+      line-calls-grow = λ a b. one _;
+      line-calls-byte = λ a b c d. one _;
+      line-calls-byte-space = λ a b c d. one _;
+      line-calls-tick = λ a b. one _;
+      line-calls-measure = λ a b c. one _;
+      line-calls-keys = λ a b c. one _;
+      line-calls-power = λ a b. one _;
+      script-meaning = λ a. one _;
+      script-byte-at = λ a b c. one _;
+    }
