@@ -116,4 +116,5 @@ outcomes =
       line-calls-power = λ a b. one _;
       script-meaning = λ a. one _;
       script-byte-at = λ a b c. one _;
+      hex-spell = λ a b. one _;
     }

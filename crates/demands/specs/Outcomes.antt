@@ -36,6 +36,7 @@ use Rattle.head.specs.Refusals as head-Refusals
 use Rattle.head.specs.Reply as head-Reply
 use Rattle.line.specs.Calls as line-Calls
 use Rattle.script.specs.Meaning as script-Meaning
+use Rattle.hex.specs.Digits as hex-Digits
 use Rattle.state.specs.declared.parts.Head.{Head}
 use Rattle.line.specs.declared.calls.Line.{Line}
 
@@ -165,3 +166,4 @@ pub record Outcomes : Type 0 where
   pub line-calls-power : One2 line-Calls.powerOf
   pub script-meaning : One1 script-Meaning.meaningOf
   pub script-byte-at : One3 script-Meaning.byteAtOf
+  pub hex-spell : One2 hex-Digits.spelledOn

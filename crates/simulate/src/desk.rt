@@ -1,0 +1,197 @@
+// A command on the desk: what it calls, and what is written for it.
+use head::calls::Answer;
+use head::calls::Heard;
+use head::refusal::Refusal;
+use libc::STDOUT_FILENO;
+use line::calls;
+use line::calls::Called;
+use line::calls::Line;
+use script::Command;
+ghost use mathlib.Core.Path.{_≡_};
+ghost use Prim.Native.Nat.{_≤_};
+ghost use lib.ListN.{length};
+ghost use Rattle.simulate.specs.Desk.{deskOf, wordOf, sentOf, roomOf, sendOf, calledOf, spacedOf, obeyedOf};
+
+// The line, and how much reply space its byte calls lend.
+pub(crate) struct Desk {
+    pub line: Line,
+    pub space: usize,
+}
+
+// The desk after a command, and whether its answer could be written.
+pub(crate) struct Obeyed {
+    pub desk: Desk,
+    pub written: bool,
+}
+
+// The line after the bytes of a send, and whether what they drew could be written.
+struct Sent {
+    line: Line,
+    written: bool,
+}
+
+// An empty line, and space for one reply.
+pub(crate) fn bare() -> Desk
+    ensures { λ r. ⌜ r ≡ deskOf ⌝ }
+{
+    Desk {
+        line: calls::empty(),
+        space: 10,
+    }
+}
+
+fn write(text: &[u8]) -> bool {
+    io::write_all(STDOUT_FILENO, text)
+}
+
+fn write_number(n: u64) -> bool {
+    io::print_decimal(STDOUT_FILENO, n)
+}
+
+fn write_refusal(why: Refusal) -> bool {
+    let label = write(b"refused ");
+    write_number(why.number() as u64) & label
+}
+
+fn write_answer(a: Answer) -> bool {
+    let text = match a {
+        Answer::Done => write(b"ok"),
+        Answer::Refused(why) => write_refusal(why),
+    };
+    write(b"\n") & text
+}
+
+fn write_error(number: u64) -> bool {
+    let label = write(b"error at line ");
+    let text = write_number(number) & label;
+    write(b"\n") & text
+}
+
+// The reply at the start of the space, after a blank.
+fn word(space: &[u8]) -> [u8; 21]
+    ensures { λ r. ⌜ r ≡ wordOf (now (space .entry)) ⌝ }
+{
+    let mut text = [b' '; 21];
+    if space.len() < 10 {
+        return text;
+    }
+    hex::spell(&space[..10], &mut text[1..21]);
+    text
+}
+
+fn write_replies(n: usize, space: &[u8]) -> bool {
+    if n == 0 {
+        return true;
+    }
+    if n == 1 {
+        let text = word(space);
+        return write(&text);
+    }
+    let label = write(b" collision ");
+    write_number(n as u64) & label
+}
+
+// What a byte of a send drew. The first says whether the bytes are refused or fed; a refusal is that of all of them.
+fn write_heard(is_first: bool, heard: Heard, space: &[u8]) -> bool {
+    match heard {
+        Heard::Replies(n) => {
+            let label = if is_first { write(b"sent") } else { true };
+            write_replies(n, space) & label
+        }
+        Heard::Refused(why) => if is_first { write_refusal(why) } else { true },
+    }
+}
+
+fn send_all(line: Line, text: &[u8], time: u32, from: usize, count: usize, space: &mut [u8]) -> Sent
+    ensures { λ r. ⌜ r .line ≡ sentOf (now (text .entry)) time from (length (now (space .entry))) line count ⌝ }
+{
+    let mut l = line;
+    let mut written = true;
+    let mut i: usize = 0;
+    while i < count {
+        let f = calls::byte(l, script::byte_at(text, from, i), time, space);
+        l = f.line;
+        let heard = f.heard;
+        written = write_heard(i == 0, heard, space) & written;
+        i += 1;
+    }
+    Sent {
+        line: l,
+        written: written,
+    }
+}
+
+// There never is more space than 64 bytes.
+fn room(size: usize) -> usize
+    ensures { λ r. ⌜ r ≡ roomOf size ⌝ }
+    ensures { λ r. ⌜ r ≤ 64 ⌝ }
+{
+    if size < 64 { size } else { 64 }
+}
+
+fn send(d: Desk, text: &[u8], time: u32, from: usize, count: usize) -> Obeyed
+    ensures { λ r. ⌜ r .desk ≡ sendOf d (now (text .entry)) time from count ⌝ }
+{
+    let mut space = [0u8; 64];
+    let size = room(d.space);
+    let s = send_all(d.line, text, time, from, count, &mut space[..size]);
+    let end = write(b"\n");
+    let line = s.line;
+    let desk = Desk {
+        line: line,
+        space: d.space,
+    };
+    Obeyed {
+        desk: desk,
+        written: end & s.written,
+    }
+}
+
+fn done(d: Desk, c: Called) -> Obeyed
+    ensures { λ r. ⌜ r .desk ≡ calledOf d c ⌝ }
+{
+    let line = c.line;
+    let desk = Desk {
+        line: line,
+        space: d.space,
+    };
+    let answer = c.answer;
+    Obeyed {
+        desk: desk,
+        written: write_answer(answer),
+    }
+}
+
+fn spaced(d: Desk, size: usize) -> Obeyed
+    ensures { λ r. ⌜ r .desk ≡ spacedOf d size ⌝ }
+{
+    let mut desk = d;
+    desk.space = size;
+    Obeyed {
+        desk: desk,
+        written: write_answer(Answer::Done),
+    }
+}
+
+// What a line of the script says, done and answered.
+pub(crate) fn obey(d: Desk, text: &[u8], number: u64) -> Obeyed
+    ensures { λ r. ⌜ r .desk ≡ obeyedOf d (now (text .entry)) ⌝ }
+{
+    match script::meaning(text) {
+        Command::Blank => Obeyed {
+            desk: d,
+            written: true,
+        },
+        Command::Malformed => Obeyed {
+            desk: d,
+            written: write_error(number),
+        },
+        Command::Grow(node) => done(d, calls::grow(d.line, node)),
+        Command::Send { time, from, count } => send(d, text, time, from, count),
+        Command::Tick(time) => done(d, calls::tick(d.line, time)),
+        Command::Measure { head, value } => done(d, calls::measure(d.line, head as usize, value)),
+        Command::Keys { head, state } => done(d, calls::keys(d.line, head as usize, state)),
+        Command::Power(head) => done(d, calls::power(d.line, head as usize)),
+        Command::Space(size) => spaced(d, size),
+    }
+}

@@ -1,0 +1,12 @@
+// A line under a script: reads commands from standard input, one a line, calls, and writes one line for each.
+mod desk;
+mod help;
+mod reading;
+
+fn main() {
+    if 1 < os::arg_count() {
+        help::explain();
+        return;
+    }
+    reading::run();
+}

@@ -1,0 +1,417 @@
+//! Makes random scripts. The reference itself runs along, so that telegrams can be meant for the numbers in
+//! force, set points for the places where the windows end, and ticks for the moments when a timeout is due.
+
+use crate::random::Random;
+use crate::telegrams::Author;
+use reference::head::{Head, HIGHEST_MEASUREMENT};
+use reference::line::MOST_HEADS;
+use reference::rows;
+use reference::script::{hex, Simulation, LONGEST_LINE};
+use reference::telegram::{Telegram, WRITE};
+
+pub const LINES: usize = 300;
+
+/// Unknown words, missing and extra words, numbers that do not fit, hex digits that are none.
+const LINES_THAT_ARE_NONE: &str = "heads 1|HEAD 1|Send 0 00|head|head 1 2|head -1|head +1|head 1F|head 0x1F|\
+    head 4294967296|head 42949672960|head 18446744073709551617|head 1#|send|send 0|send 0 0|send 0 001F2|\
+    send 0 0G|send 0 00 00|send 0 0x00|send 4294967296 00|send -1 00|tick|tick 1 2|tick 4294967296|tick -0|\
+    measure 0|measure 0 1 2|measure 0 2147483648|measure 0 -2147483649|measure 0 -|measure 0 --1|\
+    measure 0 +1|measure -0 1|keys 0|keys 0 -1|power|power 0 0|space 65|space -1";
+
+/// Lines without their newlines; the last may lack its own.
+#[derive(Clone)]
+pub struct Script {
+    pub lines: Vec<Vec<u8>>,
+    pub ends_in_newline: bool,
+}
+
+impl Script {
+    pub fn text(&self) -> Vec<u8> {
+        let mut text = self.lines.join(&b'\n');
+        if self.ends_in_newline {
+            text.push(b'\n');
+        }
+        text
+    }
+}
+
+pub struct Generator {
+    random: Random,
+    model: Simulation,
+    now: u32,
+    lines: Vec<Vec<u8>>,
+}
+
+pub fn script(seed: u64, number: u64) -> Script {
+    let mut random = Random::new(seed, number);
+    let now = match random.below(4) {
+        0 => 0,
+        1 => u32::MAX - random.below(3_000),
+        _ => random.word(),
+    };
+    let mut generator = Generator { random, model: Simulation::new(), now, lines: Vec::new() };
+    generator.first_heads();
+    while generator.lines.len() < LINES {
+        generator.step();
+    }
+    // A step may give several lines.
+    generator.lines.truncate(LINES);
+    let ends_in_newline = generator.random.chance(75);
+    Script { lines: generator.lines, ends_in_newline }
+}
+
+impl Generator {
+    fn first_heads(&mut self) {
+        while self.random.chance(15) {
+            self.step();
+        }
+        let heads = self.random.pick(&[1, 1, 1, 2, 2, 2, 3, 3, 4, 8]);
+        for _ in 0..heads {
+            self.grow();
+        }
+    }
+
+    fn step(&mut self) {
+        if self.model.space() < 10 && self.random.chance(60) {
+            return self.write_line("space 10".to_string());
+        }
+        if let (Some(twin), true) = (self.twin(), self.random.chance(20)) {
+            return self.part(twin);
+        }
+        match self.random.below(100) {
+            0..=48 => self.send_telegrams(),
+            49..=54 => self.send_split(),
+            55..=57 => self.send_damaged(),
+            58..=59 => self.send_stray_bytes(),
+            60..=63 => self.read_back(),
+            64 => self.write_edges(),
+            65..=74 => self.measure(),
+            75..=81 => self.keys(),
+            82..=90 => self.tick(),
+            91 => self.power(),
+            92 => self.grow(),
+            93..=94 => self.refused(),
+            95 => self.space(),
+            96..=97 => self.malformed(),
+            98 => self.odd_bytes(),
+            _ => self.passed_over(),
+        }
+    }
+
+    // Lines and their spelling.
+
+    fn write_line(&mut self, line: String) {
+        let spelt = self.spelt(line);
+        self.write_raw(spelt.into_bytes());
+    }
+
+    fn write_raw(&mut self, mut line: Vec<u8>) {
+        if self.random.chance(3) {
+            line.push(b'\r');
+        }
+        self.model.answer(&line);
+        self.lines.push(line);
+    }
+
+    /// The same words with other blanks, hex digits in lower case, numbers with leading zeros.
+    fn spelt(&mut self, line: String) -> String {
+        match self.random.below(40) {
+            0 => line.replace(' ', "\t"),
+            1 => format!("  {} ", line.replace(' ', " \t ")),
+            2 | 3 => line.to_lowercase(),
+            4 => line.replacen(' ', " 000", 1),
+            5 => line.replacen(' ', " 000000000000", 1),
+            _ => line,
+        }
+    }
+
+    fn some_head(&mut self) -> Option<(usize, Head)> {
+        let heads = self.model.line().heads();
+        if heads.is_empty() {
+            return None;
+        }
+        let number = self.random.below(heads.len() as u32) as usize;
+        Some((number, heads[number].clone()))
+    }
+
+    /// A head whose number another head before it has too.
+    fn twin(&self) -> Option<usize> {
+        let heads = self.model.line().heads();
+        (1..heads.len()).find(|&twin| {
+            heads[..twin].iter().any(|head| head.number_in_force() == heads[twin].number_in_force())
+        })
+    }
+
+    /// Gives heads of one number a new one, and takes it into force in one of them only: replies that
+    /// collide show little.
+    fn part(&mut self, twin: usize) {
+        self.advance();
+        let node = self.model.line().heads()[twin].number_in_force();
+        let new_node = 1 + self.random.below(127);
+        self.send(&Telegram::new(WRITE, node, rows::NODE_ADDRESS, 0, new_node).bytes());
+        self.write_line(format!("power {twin}"));
+    }
+
+    // Sends.
+
+    /// Moves the clock before a send, mostly so that a telegram begun before it does not spoil it.
+    fn advance(&mut self) {
+        let has_begun = self.model.line().heads().iter().any(|head| head.gathered_count() > 0);
+        let gap = match has_begun && self.random.chance(80) {
+            true => self.random.pick(&[11, 11, 12, 20]),
+            false => self.random.pick(&[0, 0, 0, 1, 5, 9, 10, 10, 11, 11, 50, 99, 100, 101, 500, 2_000]),
+        };
+        self.now = self.now.wrapping_add(gap);
+        match self.random.below(200) {
+            0 => self.now = u32::MAX - self.random.below(300),
+            1 => self.now = self.now.wrapping_sub(1),
+            2 => self.now = self.random.word(),
+            _ => {}
+        }
+    }
+
+    fn send(&mut self, bytes: &[u8]) {
+        self.write_line(format!("send {} {}", self.now, hex(bytes)));
+    }
+
+    fn telegram(&mut self) -> Vec<u8> {
+        let head = self.some_head().map_or_else(Head::factory, |(_, head)| head);
+        Author { random: &mut self.random, head: &head }.telegram().to_vec()
+    }
+
+    fn send_telegrams(&mut self) {
+        self.advance();
+        let count = self.random.pick(&[1, 1, 1, 1, 1, 2, 3]);
+        let bytes: Vec<u8> = (0..count).flat_map(|_| self.telegram()).collect();
+        self.send(&bytes);
+    }
+
+    /// A telegram in two or three sends with gaps about 10 ms, sometimes with another call in between.
+    fn send_split(&mut self) {
+        self.advance();
+        let telegram = self.telegram();
+        let mut rest = telegram.as_slice();
+        for _ in 0..1 + self.random.below(2) {
+            let (first, second) = rest.split_at(1 + self.random.below(rest.len() as u32 - 1) as usize);
+            self.send(first);
+            self.call_in_between();
+            self.now = self.now.wrapping_add(self.random.pick(&[0, 1, 9, 9, 10, 10, 10, 11, 11, 12]));
+            rest = second;
+            if rest.len() == 1 {
+                break;
+            }
+        }
+        self.send(rest);
+    }
+
+    fn call_in_between(&mut self) {
+        match self.random.below(12) {
+            0 => self.power(),
+            1 => self.grow(),
+            2 => self.measure(),
+            3 => self.keys(),
+            4 => self.space(),
+            _ => {}
+        }
+    }
+
+    fn send_damaged(&mut self) {
+        self.advance();
+        let mut bytes = Vec::new();
+        for _ in 0..1 + self.random.below(4) {
+            let mut telegram = self.telegram();
+            telegram[self.random.below(10) as usize] ^= 1 << self.random.below(8);
+            bytes.extend(telegram);
+        }
+        self.send(&bytes);
+    }
+
+    fn send_stray_bytes(&mut self) {
+        self.advance();
+        let bytes: Vec<u8> = (0..1 + self.random.below(12)).map(|_| self.random.byte()).collect();
+        self.send(&bytes);
+    }
+
+    /// Everything that reads tell about a head, in one send.
+    fn read_back(&mut self) {
+        self.advance();
+        let head = self.some_head().map_or_else(Head::factory, |(_, head)| head);
+        let author = Author { random: &mut self.random, head: &head };
+        let bytes = match author.random.below(6) {
+            0 => author.read_all_rows(),
+            1..=2 => author.read_error_lists(),
+            _ => author.read_functional_values(),
+        };
+        self.send(&bytes);
+    }
+
+    fn write_edges(&mut self) {
+        self.advance();
+        let head = self.some_head().map_or_else(Head::factory, |(_, head)| head);
+        let bytes = Author { random: &mut self.random, head: &head }.write_edges();
+        self.send(&bytes);
+    }
+
+    // Calls that name a head.
+
+    fn measure(&mut self) {
+        let Some((number, head)) = self.some_head() else {
+            return self.refused();
+        };
+        let measurement = match self.random.below(10) {
+            0 => self.random.pick(&[-HIGHEST_MEASUREMENT, HIGHEST_MEASUREMENT, 0, 12_348, -12_345]),
+            1 => self.random.between(-2_500_000, 2_500_000) as i32,
+            2..=3 => self.random.between(-300, 300) as i32,
+            _ => self.measurement_near_set_point(&head),
+        };
+        self.write_line(format!("measure {number} {measurement}"));
+    }
+
+    /// A measurement that takes A to the edge of a window about the set point, or to a half in rounding.
+    fn measurement_near_set_point(&mut self, head: &Head) -> i32 {
+        let window_1 = i64::from(head.value(rows::TARGET_WINDOW_1));
+        let window_2 = i64::from(head.value(rows::TARGET_WINDOW_2));
+        let unit = match head.value(rows::DIVISOR_APPLICATION) {
+            2 => 1,
+            _ => head.divisor(),
+        };
+        let edge = self.random.pick(&[0, 0, 1, window_1, window_1 + 1, window_2, window_2 + 1]);
+        let rounding = self.random.pick(&[0, unit / 2, unit / 2 - 1, unit / 2 + 1]);
+        let distance = (edge * unit + rounding) * self.random.pick(&[1, -1]);
+        let position = i64::from(head.set_point_2()) * unit + distance;
+        let measurement = position - (head.position() - i64::from(head.measurement()));
+        let highest = i64::from(HIGHEST_MEASUREMENT);
+        measurement.clamp(-highest, highest) as i32
+    }
+
+    fn keys(&mut self) {
+        let Some((number, head)) = self.some_head() else {
+            return self.refused();
+        };
+        let state = match self.random.below(3) {
+            0 => self.random.below(8),
+            1 => u32::from(head.keys() ^ self.random.pick(&[1, 2, 4])),
+            _ => self.random.pick(&[0, 1, 4, 5]),
+        };
+        self.write_line(format!("keys {number} {state}"));
+    }
+
+    fn power(&mut self) {
+        match self.some_head() {
+            Some((number, _)) => self.write_line(format!("power {number}")),
+            None => self.refused(),
+        }
+    }
+
+    // Calls that name none.
+
+    fn tick(&mut self) {
+        let head = self.some_head().map_or_else(Head::factory, |(_, head)| head);
+        let time = match (head.monitor_started_at(), self.random.below(10)) {
+            (Some(started_at), 0..=6) => {
+                let timeout = head.value(rows::BUS_TIMEOUT_TIME) as u32 * 100;
+                started_at.wrapping_add(timeout).wrapping_add(self.random.pick(&[u32::MAX, 0, 0, 1]))
+            }
+            _ => {
+                self.now.wrapping_add(self.random.pick(&[0, 99, 100, 101, 199, 200, 1_999, 2_000, u32::MAX]))
+            }
+        };
+        self.write_line(format!("tick {time}"));
+        if self.random.chance(60) {
+            self.now = time;
+        }
+    }
+
+    fn grow(&mut self) {
+        let heads = self.model.line().heads();
+        let node = match (heads.last().map(Head::number_in_force), self.random.below(10)) {
+            (Some(number), 0) => u32::from(number),
+            (_, 1..=3) => self.random.pick(&[1, 2, 12, 31, 127]),
+            _ => 1 + self.random.below(127),
+        };
+        self.write_line(format!("head {node}"));
+    }
+
+    fn space(&mut self) {
+        let size = self.random.pick(&[0, 1, 9, 9, 10, 10, 11, 20, 64, 65]);
+        self.write_line(format!("space {size}"));
+    }
+
+    /// A call with a number that is refused, in every order of the refusals.
+    fn refused(&mut self) {
+        let count = self.model.line().heads().len();
+        let missing = match self.random.below(4) {
+            0 => MOST_HEADS.to_string(),
+            1 => u32::MAX.to_string(),
+            _ => count.to_string(),
+        };
+        let present = self.random.below(count.max(1) as u32).to_string();
+        let head = if self.random.chance(50) { missing } else { present };
+        let far = self.random.pick(&[2_500_001, -2_500_001, 3_000_000, i32::MAX, i32::MIN]);
+        let state = self.random.pick(&[8, 9, 255, 256, u32::MAX]);
+        let line = match self.random.below(8) {
+            0 => format!("head {}", self.random.pick(&[0, 128, 255, 256, 257, 300, u32::MAX])),
+            1..=2 => format!("measure {head} {far}"),
+            3 => format!("measure {head} 7"),
+            4..=5 => format!("keys {head} {state}"),
+            6 => format!("keys {head} 1"),
+            _ => format!("power {head}"),
+        };
+        self.write_line(line);
+    }
+
+    // Lines that are none of the commands, or hardly.
+
+    fn malformed(&mut self) {
+        let line = match self.random.below(10) {
+            0 => self.line_of_length(),
+            1 => format!("tick {} #", self.now),
+            2 => "measure 0 -0".to_string(),
+            3 => "power\u{b}0".to_string(),
+            _ => {
+                let lines: Vec<&str> = LINES_THAT_ARE_NONE.split('|').collect();
+                self.random.pick(&lines).to_string()
+            }
+        };
+        self.write_raw(line.into_bytes());
+    }
+
+    /// A line about as long as a line may be.
+    fn line_of_length(&mut self) -> String {
+        let length = LONGEST_LINE - 2 + self.random.below(5) as usize;
+        let begun = match self.random.below(4) {
+            0 => "#".to_string(),
+            1 => String::new(),
+            2 => format!("keys {} 0", self.random.below(3)),
+            _ => {
+                let begun = format!("send {} ", self.now);
+                let digits = length - begun.len();
+                return begun + &"0".repeat(digits);
+            }
+        };
+        format!("{begun:<length$}")
+    }
+
+    fn odd_bytes(&mut self) {
+        let mut line = match self.random.below(3) {
+            0 => Vec::new(),
+            1 => b"head 1".to_vec(),
+            _ => format!("send {} 00", self.now).into_bytes(),
+        };
+        for _ in 0..self.random.below(6) {
+            let byte = match self.random.below(2) {
+                0 => self.random.byte(),
+                _ => self.random.pick(b"\0\t\x0B\x0C\r #-0aAgG:/@`\x7F\x80\xFF"),
+            };
+            if byte != b'\n' {
+                line.insert(self.random.below(line.len() as u32 + 1) as usize, byte);
+            }
+        }
+        self.write_raw(line);
+    }
+
+    fn passed_over(&mut self) {
+        let line = self.random.pick(&["", " ", "\t \t", "#", "# head 1", "  #send 0 00", "#\t\u{e9}"]);
+        self.write_raw(line.as_bytes().to_vec());
+    }
+}

@@ -1,0 +1,279 @@
+//! Writes telegrams for one head, most of them such that it has something to do.
+
+use crate::random::Random;
+use reference::head::Head;
+use reference::rows::{self, ROWS};
+use reference::telegram::{Telegram, BROADCAST, READ, WRITE};
+
+/// The stored parameters that do more than being read back, the busier ones more than once.
+const EFFECTIVE_ROWS: [u8; 32] = [
+    0x00, 0x01, 0x02, 0x02, 0x02, 0x03, 0x03, 0x03, 0x05, 0x05, 0x0B, 0x0B, 0x0B, 0x0B, 0x0E, 0x0E, 0x0E,
+    0x1B, 0x1B, 0x1E, 0x1F, 0x1F, 0x20, 0x20, 0x31, 0x31, 0x33, 0x33, 0x33, 0x34, 0x35, 0x3E,
+];
+const FUNCTIONAL_VALUES: [u8; 6] = [
+    rows::STATUS_WORD,
+    rows::SET_POINT_1,
+    rows::DIFFERENTIAL_VALUE,
+    rows::PENDING_ERROR,
+    rows::POSITION_VALUE,
+    rows::SET_POINT_2,
+];
+const READ_ONLY: [u8; 12] = [0x65, 0x67, 0x80, 0x81, 0x85, 0x8A, 0x96, 0xFA, 0xFC, 0xFD, 0xFE, 0xFE];
+const WRITE_ONLY: [u8; 4] = [0xA0, 0xA7, 0xA8, 0xAA];
+const UNKNOWN: [u8; 14] =
+    [0x10, 0x1A, 0x1D, 0x23, 0x36, 0x41, 0x63, 0x66, 0x7F, 0x8B, 0xA1, 0xC5, 0xD2, 0xF9];
+
+pub struct Author<'a> {
+    pub random: &'a mut Random,
+    pub head: &'a Head,
+}
+
+impl Author<'_> {
+    pub fn telegram(&mut self) -> [u8; 10] {
+        // A locked head refuses most of what follows; open it before long.
+        let telegram = if self.head.is_locked() && self.random.chance(10) {
+            self.sound(WRITE, rows::PROGRAMMING_MODE, 0, 1)
+        } else {
+            self.any_telegram()
+        };
+        let mut bytes = telegram.bytes();
+        if self.random.chance(6) {
+            bytes[self.random.below(10) as usize] ^= 1 << self.random.below(8);
+        }
+        bytes
+    }
+
+    fn any_telegram(&mut self) -> Telegram {
+        match self.random.below(100) {
+            0..=27 => self.read(),
+            28..=49 => self.write_row(),
+            50..=65 => self.write_set_point_2(),
+            66..=71 => self.write_set_point_1(),
+            72..=78 => self.system_command(WRITE),
+            79..=84 => self.other_write_only(WRITE),
+            85..=91 => self.broadcast(),
+            92..=94 => self.wrong_access(),
+            95..=96 => self.other_command(),
+            97..=98 => self.unknown_parameter(),
+            _ => self.noise(),
+        }
+    }
+
+    fn sound(&mut self, command: u8, parameter: u8, control_word: u16, data: u32) -> Telegram {
+        let node = self.node();
+        Telegram::new(command, node, parameter, control_word, data)
+    }
+
+    /// Mostly the number in force; sometimes the one that waits for a restart, or another.
+    fn node(&mut self) -> u8 {
+        match self.random.below(40) {
+            0 => self.head.value(rows::NODE_ADDRESS) as u8,
+            1 => self.random.byte(),
+            2 => self.head.number_in_force() ^ 0x80,
+            _ => self.head.number_in_force(),
+        }
+    }
+
+    // Reads.
+
+    fn read(&mut self) -> Telegram {
+        let parameter = match self.random.below(20) {
+            0..=9 => self.random.pick(&FUNCTIONAL_VALUES),
+            10..=11 => rows::POSITION_VALUE,
+            12..=13 => rows::ERROR_COUNT + self.random.below(11) as u8,
+            14..=15 => return self.read_input_error(),
+            16 => self.random.pick(&READ_ONLY),
+            17 => ROWS[self.random.below(39) as usize].address,
+            _ => self.random.pick(&EFFECTIVE_ROWS),
+        };
+        // A read's control word and data are to be ignored.
+        let control_word = if self.random.chance(40) { self.control_word() } else { 0 };
+        let data = if self.random.chance(20) { self.random.word() } else { 0 };
+        self.sound(READ, parameter, control_word, data)
+    }
+
+    fn read_input_error(&mut self) -> Telegram {
+        let count = self.head.input_error_count() as u32;
+        let number = match self.random.below(8) {
+            0 => count + 1,
+            1 => u32::from(self.random.byte()),
+            2..=3 => 0,
+            _ => self.random.below(count + 1),
+        };
+        let other_bytes = if self.random.chance(30) { self.random.word() >> 8 } else { 0 };
+        self.sound(READ, rows::INPUT_ERRORS, 0, number << 24 | other_bytes)
+    }
+
+    fn reads(&self, asked: impl Iterator<Item = (u8, u32)>) -> Vec<u8> {
+        let node = self.head.number_in_force();
+        asked.flat_map(|(parameter, data)| Telegram::new(READ, node, parameter, 0, data).bytes()).collect()
+    }
+
+    pub fn read_all_rows(&self) -> Vec<u8> {
+        self.reads(ROWS.iter().map(|row| (row.address, 0)))
+    }
+
+    pub fn read_error_lists(&self) -> Vec<u8> {
+        let memory = (rows::ERROR_COUNT..=rows::LAST_ERROR).map(|parameter| (parameter, 0));
+        let numbers = 0..=self.head.input_error_count() as u32;
+        self.reads(memory.chain(numbers.map(|number| (rows::INPUT_ERRORS, number << 24))))
+    }
+
+    pub fn read_functional_values(&self) -> Vec<u8> {
+        self.reads(FUNCTIONAL_VALUES.iter().map(|&parameter| (parameter, 0)))
+    }
+
+    // Writes.
+
+    fn write_row(&mut self) -> Telegram {
+        let parameter = match self.random.chance(75) {
+            true => self.random.pick(&EFFECTIVE_ROWS),
+            false => ROWS[self.random.below(39) as usize].address,
+        };
+        let data = self.row_value(parameter);
+        let control_word = if self.random.chance(20) { self.control_word() } else { 0 };
+        self.sound(WRITE, parameter, control_word, data)
+    }
+
+    fn row_value(&mut self, parameter: u8) -> u32 {
+        let (low, high) = rows::limits(parameter).expect("a row has limits");
+        let value = match self.random.below(16) {
+            0 => low - 1,
+            1 => high + 1,
+            2 => return self.random.pick(&[u32::MAX, 1 << 31, 1 << 24, 1 << 16, 256]),
+            3 => return self.random.word(),
+            4 => low,
+            5 => high,
+            6..=9 => self.random.between(low.max(-20), high.min(20)),
+            _ => self.random.between(low, high),
+        };
+        value as u32
+    }
+
+    /// Writes at and just beyond the limits of all the rows that are only stored.
+    pub fn write_edges(&mut self) -> Vec<u8> {
+        let node = self.head.number_in_force();
+        let stored_only = ROWS.iter().filter(|row| !EFFECTIVE_ROWS.contains(&row.address));
+        stored_only
+            .flat_map(|row| {
+                let edges = [row.low - 1, row.low, row.high, row.high + 1, row.high + 1];
+                let data = self.random.pick(&edges) as u32;
+                Telegram::new(WRITE, node, row.address, 0, data).bytes()
+            })
+            .collect()
+    }
+
+    fn control_word(&mut self) -> u16 {
+        let bits = [(2, 50), (4, 25), (5, 40), (9, 75)];
+        let mut word = if self.random.chance(15) { self.random.next() as u16 } else { 0 };
+        for (bit, percent) in bits {
+            word &= !(1 << bit);
+            word |= u16::from(self.random.chance(percent)) << bit;
+        }
+        word
+    }
+
+    fn write_set_point_1(&mut self) -> Telegram {
+        let data = self.random.pick(&[0, 1, 1_234, u32::MAX, 0xDEAD_BEEF]);
+        let control_word = self.control_word();
+        self.sound(WRITE, rows::SET_POINT_1, control_word, data)
+    }
+
+    fn write_set_point_2(&mut self) -> Telegram {
+        let data = match self.random.below(10) {
+            0 => self.random.pick(&[0, 0x7FFF_FFFF, 0x8000_0000, u32::MAX]),
+            1 => self.random.word(),
+            _ => self.set_point_near_actual(),
+        };
+        let control_word = self.control_word();
+        self.sound(WRITE, rows::SET_POINT_2, control_word, data)
+    }
+
+    /// A set point from which A lies at the edge of a window, or where the differential value is held.
+    fn set_point_near_actual(&mut self) -> u32 {
+        let window_1 = i64::from(self.head.value(rows::TARGET_WINDOW_1));
+        let window_2 = i64::from(self.head.value(rows::TARGET_WINDOW_2));
+        let held = 5_242_880;
+        let edges = [0, 1, 2, window_1, window_1, window_1 + 1, window_2, window_2 + 1, held, held + 1];
+        let distance = self.random.pick(&edges) * self.random.pick(&[1, -1]);
+        (self.head.actual() + distance) as u32
+    }
+
+    fn system_command(&mut self, command: u8) -> Telegram {
+        // Resets of 00h bring all heads to one number, so they are rarer, above all as broadcasts.
+        let data = match self.random.below(20) {
+            0..=2 => self.random.pick(&[0, 3, 4, 6, 10, 0x0100_0007, u32::MAX]),
+            3 if command == WRITE || self.random.chance(20) => self.random.pick(&[1, 5]),
+            4 => 2,
+            5..=8 => 8,
+            9..=11 => 9,
+            _ => 7,
+        };
+        self.sound(command, rows::SYSTEM_COMMAND, 0, data)
+    }
+
+    fn other_write_only(&mut self, command: u8) -> Telegram {
+        let parameter = self.random.pick(&[rows::CALIBRATION_TRAVEL, rows::PROGRAMMING_MODE, rows::FREEZE]);
+        let data = match parameter {
+            rows::PROGRAMMING_MODE => self.random.pick(&[0, 0, 0, 0, 1, 1, 1, 2]),
+            _ => self.random.pick(&[0, 1, 1, 1, 1, 1, 2]),
+        };
+        let control_word = if self.random.chance(20) { self.control_word() } else { 0 };
+        self.sound(command, parameter, control_word, data)
+    }
+
+    // Broadcasts and what is refused.
+
+    fn broadcast(&mut self) -> Telegram {
+        let mut telegram = match self.random.below(10) {
+            0..=3 => self.system_command(BROADCAST),
+            4..=7 => self.other_write_only(BROADCAST),
+            8 => self.write_row(),
+            _ => self.write_set_point_2(),
+        };
+        if self.random.chance(70) {
+            let node = self.random.byte();
+            telegram = Telegram::new(
+                BROADCAST,
+                node,
+                telegram.parameter(),
+                telegram.control_word(),
+                telegram.data(),
+            );
+        }
+        telegram
+    }
+
+    fn wrong_access(&mut self) -> Telegram {
+        let (command, parameter) = match self.random.below(3) {
+            0 => (WRITE, self.random.pick(&READ_ONLY)),
+            1 => (READ, self.random.pick(&WRITE_ONLY)),
+            _ => (BROADCAST, self.random.pick(&READ_ONLY)),
+        };
+        let data = self.random.below(3);
+        self.sound(command, parameter, 0, data)
+    }
+
+    fn other_command(&mut self) -> Telegram {
+        let command = match self.random.below(3) {
+            0 => self.random.byte(),
+            1 => 0xFF,
+            _ => 3,
+        };
+        let parameter = self.random.byte();
+        self.sound(command, parameter, 0, 0)
+    }
+
+    fn unknown_parameter(&mut self) -> Telegram {
+        let command = self.random.pick(&[READ, WRITE, BROADCAST]);
+        let parameter = self.random.pick(&UNKNOWN);
+        self.sound(command, parameter, 0, 1)
+    }
+
+    fn noise(&mut self) -> Telegram {
+        let command = self.random.pick(&[READ, WRITE, BROADCAST]);
+        let parameter = self.random.byte();
+        let data = self.random.word();
+        self.sound(command, parameter, 0, data)
+    }
+}

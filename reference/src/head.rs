@@ -1,0 +1,602 @@
+//! One head: what it holds, a telegram's way through it, and what each telegram, key, measurement and tick does.
+
+use crate::rows::{self, Access, ROWS, ROW_COUNT};
+use crate::telegram::{
+    self, ErrorCode, Reply, Telegram, CHECK_SUM, COMMAND_NOT_SUPPORTED, PROGRAMMING_LOCKED, READ,
+    READ_OF_WRITE_ONLY, TELEGRAM_LENGTH, UNKNOWN_PARAMETER, VALUE_ABOVE_HIGH, WRITE_TO_READ_ONLY,
+};
+use std::collections::VecDeque;
+
+pub const FACTORY_NODE: u8 = 31;
+pub const HIGHEST_MEASUREMENT: i32 = 2_500_000;
+pub const HIGHEST_DIFFERENTIAL: i64 = 5_242_880;
+
+const LONGEST_GAP: u32 = 10;
+const TIMEOUT_STEP: u32 = 100;
+const DAMAGED_FOR_AN_ERROR: u32 = 3;
+
+const CONTROL_SET_POINT_1_VALID: u16 = 1 << 2;
+const CONTROL_CLEAR_STATIC: u16 = 1 << 4;
+const CONTROL_ACKNOWLEDGE: u16 = 1 << 5;
+const CONTROL_SET_POINT_2_VALID: u16 = 1 << 9;
+
+const STATUS_CLOCKWISE: u16 = 1 << 0;
+const STATUS_COUNTER_CLOCKWISE: u16 = 1 << 1;
+const STATUS_SET_POINT_1_VALID: u16 = 1 << 2;
+const STATUS_IN_WINDOW_2: u16 = 1 << 3;
+const STATUS_STATIC: u16 = 1 << 4;
+const STATUS_IN_WINDOW_1: u16 = 1 << 5;
+const STATUS_ABOVE: u16 = 1 << 6;
+const STATUS_ERROR_PENDING: u16 = 1 << 7;
+const STATUS_FROZEN: u16 = 1 << 8;
+const STATUS_INCREMENTAL: u16 = 1 << 9;
+const STATUS_SET_POINT_2_VALID: u16 = 1 << 10;
+const STATUS_KEYS_FROM: u16 = 13;
+
+pub const KEY_LEFT: u8 = 1;
+pub const KEY_STAR: u8 = 2;
+pub const KEY_UP: u8 = 4;
+
+/// Up to ten error codes, the oldest first.
+#[derive(Clone, Debug, Default)]
+struct ErrorList {
+    codes: VecDeque<ErrorCode>,
+}
+
+impl ErrorList {
+    const PLACES: usize = 10;
+
+    fn enter(&mut self, code: ErrorCode) {
+        if self.codes.len() == ErrorList::PLACES {
+            self.codes.pop_front();
+        }
+        self.codes.push_back(code);
+    }
+
+    fn count(&self) -> usize {
+        self.codes.len()
+    }
+
+    /// The code at a place counted from 1, the oldest; 0 where there is none.
+    fn nth_oldest(&self, number: usize) -> ErrorCode {
+        match number.checked_sub(1) {
+            Some(index) => self.codes.get(index).copied().unwrap_or(0),
+            None => 0,
+        }
+    }
+}
+
+/// What a restart clears, each at its first value.
+#[derive(Clone, Debug, Default)]
+struct Running {
+    set_point_1: u32,
+    set_point_1_valid: bool,
+    set_point_2: i32,
+    set_point_2_valid: bool,
+    taken_control_word: u16,
+    static_bit: bool,
+    pending_error: Option<ErrorCode>,
+    damaged_in_a_row: u32,
+    input_errors: ErrorList,
+    keys: u8,
+    kept_position: Option<i64>,
+    incremental_start: Option<i32>,
+    monitor_started_at: Option<u32>,
+    gathered: Vec<u8>,
+    last_byte_at: u32,
+}
+
+#[derive(Clone, Debug)]
+pub struct Head {
+    values: [i32; ROW_COUNT],
+    number_in_force: u8,
+    baud_in_force: u8,
+    interlock_open: bool,
+    error_memory: ErrorList,
+    measurement: i32,
+    zero: i32,
+    adopted_calibration: i32,
+    running: Running,
+}
+
+/// What the checks make of a sound telegram.
+enum Verdict {
+    Obeyed,
+    Refused(ErrorCode),
+    NotForThisHead,
+}
+
+impl Head {
+    /// A new head at a number that the caller has found to be 1 to 127.
+    pub fn new(node: u8) -> Head {
+        let mut values = ROWS.map(|row| row.default);
+        values[place_of(rows::NODE_ADDRESS)] = i32::from(node);
+        let mut head = Head {
+            values,
+            number_in_force: node,
+            baud_in_force: 0,
+            interlock_open: false,
+            error_memory: ErrorList::default(),
+            measurement: 0,
+            zero: 0,
+            adopted_calibration: 0,
+            running: Running::default(),
+        };
+        head.restart();
+        head
+    }
+
+    pub fn factory() -> Head {
+        Head::new(FACTORY_NODE)
+    }
+
+    // What a driver or a test may ask.
+
+    pub fn number_in_force(&self) -> u8 {
+        self.number_in_force
+    }
+
+    pub fn baud_in_force(&self) -> u8 {
+        self.baud_in_force
+    }
+
+    /// A stored value; the address is one of the 39.
+    pub fn value(&self, address: u8) -> i32 {
+        self.values[place_of(address)]
+    }
+
+    pub fn is_locked(&self) -> bool {
+        self.value(rows::PROGRAMMING_CONFIGURATION) == 1 && !self.interlock_open
+    }
+
+    pub fn measurement(&self) -> i32 {
+        self.measurement
+    }
+
+    pub fn keys(&self) -> u8 {
+        self.running.keys
+    }
+
+    pub fn set_point_2(&self) -> i32 {
+        self.running.set_point_2
+    }
+
+    pub fn gathered_count(&self) -> usize {
+        self.running.gathered.len()
+    }
+
+    pub fn monitor_started_at(&self) -> Option<u32> {
+        self.running.monitor_started_at
+    }
+
+    pub fn input_error_count(&self) -> usize {
+        self.running.input_errors.count()
+    }
+
+    // The calls.
+
+    /// One byte heard on the line; the reply if the head answers.
+    pub fn byte(&mut self, time: u32, byte: u8) -> Option<Reply> {
+        let ear = &mut self.running;
+        if time.wrapping_sub(ear.last_byte_at) > LONGEST_GAP {
+            ear.gathered.clear();
+        }
+        ear.last_byte_at = time;
+        ear.gathered.push(byte);
+        let bytes: [u8; TELEGRAM_LENGTH] = ear.gathered.as_slice().try_into().ok()?;
+        ear.gathered.clear();
+        self.hear(time, Telegram::received(bytes))
+    }
+
+    pub fn tick(&mut self, time: u32) {
+        let timeout = self.value(rows::BUS_TIMEOUT_TIME) as u32 * TIMEOUT_STEP;
+        let Some(started_at) = self.running.monitor_started_at else {
+            return;
+        };
+        if timeout > 0 && time.wrapping_sub(started_at) >= timeout {
+            self.running.monitor_started_at = None;
+            self.raise(telegram::BUS_TIMEOUT);
+        }
+    }
+
+    /// A measurement that the caller has found to be in range.
+    pub fn measure(&mut self, measurement: i32) {
+        self.measurement = measurement;
+        self.set_static_bit_in_window();
+    }
+
+    /// A key state that the caller has found to be 0 to 7.
+    pub fn set_keys(&mut self, keys: u8) {
+        let newly_pressed = keys & !self.running.keys;
+        self.running.keys = keys;
+        if newly_pressed & KEY_LEFT != 0 {
+            self.left_pressed();
+        }
+        if newly_pressed & KEY_UP != 0 && self.value(rows::INCREMENTAL_KEY_ENABLE) == 1 {
+            self.switch_incremental();
+        }
+    }
+
+    /// Restart, by power or by A0h 9.
+    pub fn restart(&mut self) {
+        self.number_in_force = self.value(rows::NODE_ADDRESS) as u8;
+        self.baud_in_force = self.value(rows::BAUD_RATE) as u8;
+        self.running = Running::default();
+    }
+
+    // A telegram's way through the head.
+
+    fn hear(&mut self, time: u32, telegram: Telegram) -> Option<Reply> {
+        let status_word_before = self.status_word();
+        if !telegram.is_sound() {
+            return self.hear_damaged(&telegram, status_word_before);
+        }
+        self.running.damaged_in_a_row = 0;
+        self.running.monitor_started_at = Some(time);
+        match self.verdict(&telegram) {
+            Verdict::NotForThisHead => None,
+            Verdict::Refused(code) => self.refuse(&telegram, status_word_before, code),
+            Verdict::Obeyed => {
+                let data = self.obey(&telegram);
+                (!telegram.is_broadcast()).then(|| telegram.reply(status_word_before, data))
+            }
+        }
+    }
+
+    fn hear_damaged(&mut self, telegram: &Telegram, status_word_before: u16) -> Option<Reply> {
+        self.running.damaged_in_a_row += 1;
+        if self.running.damaged_in_a_row == DAMAGED_FOR_AN_ERROR {
+            self.running.damaged_in_a_row = 0;
+            self.raise(CHECK_SUM);
+        }
+        if telegram.node() != self.number_in_force {
+            return None;
+        }
+        self.refuse(telegram, status_word_before, CHECK_SUM)
+    }
+
+    /// Checks 2 to 7, the first that applies decides.
+    fn verdict(&self, telegram: &Telegram) -> Verdict {
+        if !telegram.is_broadcast() && telegram.node() != self.number_in_force {
+            return Verdict::NotForThisHead;
+        }
+        match self.check(telegram) {
+            Ok(()) => Verdict::Obeyed,
+            Err(code) => Verdict::Refused(code),
+        }
+    }
+
+    /// Checks 3 to 7. What a broadcast is refused for does not matter: a refused broadcast is silent.
+    fn check(&self, telegram: &Telegram) -> Result<(), ErrorCode> {
+        let parameter = telegram.parameter();
+        let access = rows::access(parameter);
+        if telegram.command() > telegram::BROADCAST {
+            return Err(COMMAND_NOT_SUPPORTED);
+        }
+        if access == Access::Unknown {
+            return Err(UNKNOWN_PARAMETER);
+        }
+        if telegram.command() == READ {
+            return self.check_read(access, telegram);
+        }
+        if access == Access::ReadOnly {
+            return Err(WRITE_TO_READ_ONLY);
+        }
+        if telegram.is_broadcast() && !rows::may_be_broadcast(parameter) {
+            return Err(COMMAND_NOT_SUPPORTED);
+        }
+        if self.is_locked() && rows::is_lockable(parameter) {
+            return Err(PROGRAMMING_LOCKED);
+        }
+        rows::check_value(parameter, telegram.data())
+    }
+
+    fn check_read(&self, access: Access, telegram: &Telegram) -> Result<(), ErrorCode> {
+        if access == Access::WriteOnly {
+            return Err(READ_OF_WRITE_ONLY);
+        }
+        let number_asked = error_number(telegram.data());
+        if telegram.parameter() == rows::INPUT_ERRORS && number_asked > self.input_error_count() {
+            return Err(VALUE_ABOVE_HIGH);
+        }
+        Ok(())
+    }
+
+    /// Only an error reply that is sent enters the input list, so a refused broadcast leaves none.
+    fn refuse(&mut self, telegram: &Telegram, status_word_before: u16, code: ErrorCode) -> Option<Reply> {
+        if telegram.is_broadcast() {
+            return None;
+        }
+        self.running.input_errors.enter(code);
+        Some(telegram.error_reply(status_word_before, code))
+    }
+
+    /// Does what the telegram asks and gives the data of its reply.
+    fn obey(&mut self, telegram: &Telegram) -> u32 {
+        let parameter = telegram.parameter();
+        let data = telegram.data();
+        if telegram.command() == READ {
+            let data_before = self.read(parameter, data);
+            self.after_reading(parameter);
+            return data_before;
+        }
+        match parameter {
+            rows::SYSTEM_COMMAND => self.system_command(data),
+            rows::CALIBRATION_TRAVEL => self.calibrate(),
+            rows::PROGRAMMING_MODE => self.interlock_open = data == 1,
+            rows::FREEZE => self.running.kept_position = Some(self.position_shown()),
+            rows::SET_POINT_1 => self.write_set_point_1(data, telegram.control_word()),
+            rows::SET_POINT_2 => return self.write_set_point_2(data, telegram.control_word()),
+            _ => self.values[place_of(parameter)] = data as i32,
+        }
+        data
+    }
+
+    // Reading.
+
+    fn read(&self, parameter: u8, data: u32) -> u32 {
+        match parameter {
+            rows::DEVICE_IDENTIFICATION => 11,
+            rows::SOFTWARE_VERSION => 100,
+            rows::ERROR_COUNT => self.error_memory.count() as u32,
+            rows::FIRST_ERROR..=rows::LAST_ERROR => {
+                let number = usize::from(parameter - rows::FIRST_ERROR) + 1;
+                u32::from(self.error_memory.nth_oldest(number))
+            }
+            rows::INPUT_ERRORS => self.read_input_errors(data),
+            rows::STATUS_WORD => u32::from(self.status_word()),
+            rows::SET_POINT_1 => self.running.set_point_1,
+            rows::DIFFERENTIAL_VALUE => self.differential_value() as u32,
+            rows::PENDING_ERROR => u32::from(self.running.pending_error.unwrap_or(0)),
+            rows::POSITION_VALUE => self.running.kept_position.unwrap_or(self.position_shown()) as u32,
+            rows::SET_POINT_2 => self.running.set_point_2 as u32,
+            _ => self.value(parameter) as u32,
+        }
+    }
+
+    fn read_input_errors(&self, data: u32) -> u32 {
+        let number = error_number(data);
+        let low_bytes = match number {
+            0 => self.input_error_count() as u32,
+            _ => u32::from(self.running.input_errors.nth_oldest(number)),
+        };
+        (number as u32) << 24 | low_bytes
+    }
+
+    fn after_reading(&mut self, parameter: u8) {
+        match parameter {
+            rows::STATUS_WORD => self.running.static_bit = false,
+            rows::POSITION_VALUE => self.running.kept_position = None,
+            _ => {}
+        }
+    }
+
+    // Writing.
+
+    fn system_command(&mut self, value: u32) {
+        match value {
+            1 => self.reset(|_| true),
+            2 => self.reset(|address| !rows::BUS_PARAMETERS.contains(&address)),
+            5 => self.reset(|address| rows::BUS_PARAMETERS.contains(&address)),
+            7 => self.calibrate(),
+            8 => self.error_memory = ErrorList::default(),
+            9 => self.restart(),
+            _ => unreachable!("the range check let {value} through"),
+        }
+    }
+
+    /// To the manual's default, so 00h to 31 and not to the number that the head was made with.
+    fn reset(&mut self, is_meant: impl Fn(u8) -> bool) {
+        for (value, row) in self.values.iter_mut().zip(ROWS) {
+            if is_meant(row.address) {
+                *value = row.default;
+            }
+        }
+    }
+
+    fn write_set_point_1(&mut self, data: u32, control_word: u16) {
+        self.running.set_point_1 = data;
+        self.running.set_point_1_valid = control_word & CONTROL_SET_POINT_1_VALID != 0;
+        self.take_control_word(control_word);
+    }
+
+    /// Gives the data of the reply, which 03h chooses and which are those after the write.
+    fn write_set_point_2(&mut self, data: u32, control_word: u16) -> u32 {
+        self.running.set_point_2 = data as i32;
+        self.running.set_point_2_valid = control_word & CONTROL_SET_POINT_2_VALID != 0;
+        self.take_control_word(control_word);
+        self.set_static_bit_in_window();
+        match self.value(rows::SET_POINT_RESPONSE) {
+            0 => data,
+            1 => self.position_shown() as u32,
+            _ => self.differential_value() as u32,
+        }
+    }
+
+    /// What both set points' control words do: bits 4 and 5.
+    fn take_control_word(&mut self, control_word: u16) {
+        if control_word & CONTROL_CLEAR_STATIC != 0 {
+            self.running.static_bit = false;
+        }
+        let newly_set = control_word & !self.running.taken_control_word;
+        if newly_set & CONTROL_ACKNOWLEDGE != 0 {
+            self.running.pending_error = None;
+        }
+        self.running.taken_control_word = control_word;
+    }
+
+    // Errors and keys.
+
+    fn raise(&mut self, code: ErrorCode) {
+        self.running.pending_error = Some(code);
+        self.error_memory.enter(code);
+    }
+
+    fn left_pressed(&mut self) {
+        if self.running.pending_error.is_some() {
+            self.running.pending_error = None;
+        } else if self.value(rows::CALIBRATION_KEY_ENABLE) == 1 {
+            self.calibrate();
+        }
+    }
+
+    fn switch_incremental(&mut self) {
+        self.running.incremental_start = match self.running.incremental_start {
+            Some(_) => None,
+            None => Some(self.measurement),
+        };
+    }
+
+    // Position and status.
+
+    /// The calibration value counts from here on, not from when it was written.
+    fn calibrate(&mut self) {
+        self.zero = self.measurement;
+        self.adopted_calibration = self.value(rows::CALIBRATION_VALUE);
+    }
+
+    pub fn position(&self) -> i64 {
+        let measurement = i64::from(self.measurement);
+        match self.running.incremental_start {
+            Some(start) => measurement - i64::from(start),
+            None => {
+                let offset = i64::from(self.value(rows::OFFSET_VALUE));
+                measurement - i64::from(self.zero) + i64::from(self.adopted_calibration) + offset
+            }
+        }
+    }
+
+    /// The value that the set point is held against (A).
+    pub fn actual(&self) -> i64 {
+        match self.value(rows::DIVISOR_APPLICATION) {
+            2 => self.position(),
+            _ => divided(self.position(), self.divisor()),
+        }
+    }
+
+    pub fn divisor(&self) -> i64 {
+        10_i64.pow(self.value(rows::DISPLAY_DIVISOR) as u32)
+    }
+
+    /// What FEh shows unfrozen.
+    fn position_shown(&self) -> i64 {
+        match self.value(rows::DIVISOR_APPLICATION) {
+            0 => self.actual(),
+            _ => self.position(),
+        }
+    }
+
+    /// A - S, in 64 bits because in 32 it wraps.
+    fn actual_minus_set_point(&self) -> i64 {
+        self.actual() - i64::from(self.running.set_point_2)
+    }
+
+    fn differential_value(&self) -> i64 {
+        let difference = match self.value(rows::DIFFERENTIAL_FORMATION) {
+            0 => self.actual_minus_set_point(),
+            _ => -self.actual_minus_set_point(),
+        };
+        difference.clamp(-HIGHEST_DIFFERENTIAL, HIGHEST_DIFFERENTIAL)
+    }
+
+    fn set_static_bit_in_window(&mut self) {
+        if self.status_word() & STATUS_IN_WINDOW_1 != 0 {
+            self.running.static_bit = true;
+        }
+    }
+
+    pub fn status_word(&self) -> u16 {
+        let running = &self.running;
+        let mut status_word = u16::from(running.keys) << STATUS_KEYS_FROM;
+        let mut set_if = |condition: bool, bit: u16| {
+            if condition {
+                status_word |= bit;
+            }
+        };
+        set_if(running.set_point_1_valid, STATUS_SET_POINT_1_VALID);
+        set_if(running.static_bit, STATUS_STATIC);
+        set_if(running.pending_error.is_some(), STATUS_ERROR_PENDING);
+        set_if(running.kept_position.is_some(), STATUS_FROZEN);
+        set_if(running.incremental_start.is_some(), STATUS_INCREMENTAL);
+        if running.set_point_2_valid {
+            status_word |= STATUS_SET_POINT_2_VALID | self.target_bits();
+        }
+        status_word
+    }
+
+    /// The bits that a valid set point 2 gives.
+    fn target_bits(&self) -> u16 {
+        let difference = self.actual_minus_set_point();
+        let is_above = difference > 0;
+        let mut bits = 0;
+        if is_above {
+            bits |= STATUS_ABOVE;
+        }
+        if difference.abs() <= i64::from(self.value(rows::TARGET_WINDOW_2)) {
+            bits |= STATUS_IN_WINDOW_2;
+        }
+        if difference.abs() <= i64::from(self.value(rows::TARGET_WINDOW_1)) {
+            bits |= STATUS_IN_WINDOW_1;
+        } else if is_above == (self.value(rows::COUNTING_DIRECTION) == 1) {
+            bits |= STATUS_CLOCKWISE;
+        } else {
+            bits |= STATUS_COUNTER_CLOCKWISE;
+        }
+        bits
+    }
+}
+
+fn place_of(address: u8) -> usize {
+    rows::place(address).expect("only stored parameters are asked for")
+}
+
+/// The number that a 96h read asks for: its first data byte, the others are ignored.
+fn error_number(data: u32) -> usize {
+    (data >> 24) as usize
+}
+
+/// Rounded to nearest, halves away from zero.
+fn divided(position: i64, divisor: i64) -> i64 {
+    let rounded = (position.abs() + divisor / 2) / divisor;
+    rounded * position.signum()
+}
+
+#[cfg(test)]
+mod tests {
+    use super::*;
+
+    #[test]
+    fn halves_round_away_from_zero() {
+        assert_eq!(divided(12_348, 10), 1_235);
+        assert_eq!(divided(-12_345, 10), -1_235);
+        assert_eq!(divided(-12_344, 10), -1_234);
+        assert_eq!(divided(499, 1_000), 0);
+        assert_eq!(divided(500, 1_000), 1);
+        assert_eq!(divided(-500, 1_000), -1);
+        assert_eq!(divided(0, 1_000), 0);
+        assert_eq!(divided(-7, 1), -7);
+    }
+
+    #[test]
+    fn a_full_list_drops_its_oldest() {
+        let mut list = ErrorList::default();
+        for code in 1..=12 {
+            list.enter(code);
+        }
+        assert_eq!(list.count(), 10);
+        assert_eq!(list.nth_oldest(0), 0);
+        assert_eq!(list.nth_oldest(1), 3);
+        assert_eq!(list.nth_oldest(10), 12);
+        assert_eq!(list.nth_oldest(11), 0);
+    }
+
+    #[test]
+    fn a_new_baud_rate_counts_from_the_restart_on() {
+        let mut head = Head::factory();
+        assert_eq!((head.number_in_force(), head.baud_in_force()), (31, 1));
+        head.obey(&Telegram::new(telegram::WRITE, 31, rows::BAUD_RATE, 0, 2));
+        assert_eq!(head.baud_in_force(), 1);
+        head.restart();
+        assert_eq!(head.baud_in_force(), 2);
+    }
+}

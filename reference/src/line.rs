@@ -1,0 +1,99 @@
+//! The line: 0 to 8 heads, the calls on it and their refusals.
+
+use crate::head::{Head, HIGHEST_MEASUREMENT};
+use crate::telegram::{Reply, TELEGRAM_LENGTH};
+
+pub const MOST_HEADS: usize = 8;
+const HIGHEST_KEY_STATE: u32 = 7;
+
+/// The refusals that a line made by calls alone can give, with document 01's numbers.
+#[derive(Clone, Copy, Debug, PartialEq, Eq)]
+pub enum Refusal {
+    NodeNumber = 1,
+    NinthHead = 2,
+    HeadNumber = 3,
+    Measurement = 4,
+    KeyState = 5,
+    ReplySpace = 6,
+}
+
+impl Refusal {
+    pub fn number(self) -> u32 {
+        self as u32
+    }
+}
+
+#[derive(Clone, Debug, Default)]
+pub struct Line {
+    heads: Vec<Head>,
+}
+
+impl Line {
+    pub fn new() -> Line {
+        Line::default()
+    }
+
+    pub fn heads(&self) -> &[Head] {
+        &self.heads
+    }
+
+    /// Grows the line by a new head.
+    pub fn grow(&mut self, node: u32) -> Result<(), Refusal> {
+        if self.heads.len() == MOST_HEADS {
+            return Err(Refusal::NinthHead);
+        }
+        let node = match node {
+            1..=127 => node as u8,
+            _ => return Err(Refusal::NodeNumber),
+        };
+        self.heads.push(Head::new(node));
+        Ok(())
+    }
+
+    /// Every head hears the byte. The answer is the number of replies; one alone stands in the first ten
+    /// bytes of the space, two or more are a collision and leave it as it was.
+    pub fn byte(&mut self, time: u32, byte: u8, space: &mut [u8]) -> Result<usize, Refusal> {
+        if space.len() < TELEGRAM_LENGTH {
+            return Err(Refusal::ReplySpace);
+        }
+        // All heads act before anything is decided about replies: heads do not hear them.
+        let replies: Vec<Reply> = self.heads.iter_mut().filter_map(|head| head.byte(time, byte)).collect();
+        if let [reply] = replies.as_slice() {
+            space[..TELEGRAM_LENGTH].copy_from_slice(reply);
+        }
+        Ok(replies.len())
+    }
+
+    pub fn tick(&mut self, time: u32) {
+        for head in &mut self.heads {
+            head.tick(time);
+        }
+    }
+
+    pub fn measure(&mut self, head: u32, measurement: i32) -> Result<(), Refusal> {
+        let head = self.head(head)?;
+        if !(-HIGHEST_MEASUREMENT..=HIGHEST_MEASUREMENT).contains(&measurement) {
+            return Err(Refusal::Measurement);
+        }
+        head.measure(measurement);
+        Ok(())
+    }
+
+    pub fn keys(&mut self, head: u32, state: u32) -> Result<(), Refusal> {
+        let head = self.head(head)?;
+        if state > HIGHEST_KEY_STATE {
+            return Err(Refusal::KeyState);
+        }
+        head.set_keys(state as u8);
+        Ok(())
+    }
+
+    pub fn power(&mut self, head: u32) -> Result<(), Refusal> {
+        self.head(head)?.restart();
+        Ok(())
+    }
+
+    fn head(&mut self, number: u32) -> Result<&mut Head, Refusal> {
+        self.heads.get_mut(number as usize).ok_or(Refusal::HeadNumber)
+    }
+}

@@ -1,0 +1,338 @@
+//! The script: what a line means, and the answer to it.
+
+use crate::line::{Line, Refusal};
+use std::fmt::Write as _;
+use std::io::{self, BufRead, ErrorKind, Write};
+
+/// Without the newline and a carriage return before it.
+pub const LONGEST_LINE: usize = 4_096;
+pub const LARGEST_SPACE: usize = 64;
+const FIRST_SPACE: usize = 10;
+
+pub const HELP: &str = "\
+A line of SIKONETZ5 heads, driven by a script on standard input: one command a
+line, words separated by blanks or tabs, one line of output for each.
+
+  head NODE            grow the line by a head; the first is head 0
+  send TIME HEX        feed these bytes (two hex digits each), all at TIME
+  tick TIME            let the heads look at the clock
+  measure HEAD VALUE   a head's measurement; VALUE may have a minus sign
+  keys HEAD STATE      a head's keys: 1 left, 2 star, 4 up, or a sum of these
+  power HEAD           switch a head off and on
+  space SIZE           how much reply space bytes lend, 0 to 64; 10 at first
+
+Numbers are decimal, TIME is in milliseconds. Blank lines and lines whose first
+word starts with # are passed over.
+
+  ok                   done
+  sent ...             the bytes are fed; then each reply as twenty hex digits,
+                       or 'collision N' where N heads replied at once
+  refused N            1 node number not 1 to 127   4 measurement out of range
+                       2 ninth head                 5 key state above 7
+                       3 no such head               6 space under ten bytes
+  error at line N      the line is none of these commands
+";
+
+#[derive(Clone, Debug, PartialEq, Eq)]
+pub enum Command {
+    Head { node: u32 },
+    Send { time: u32, bytes: Vec<u8> },
+    Tick { time: u32 },
+    Measure { head: u32, value: i32 },
+    Keys { head: u32, state: u32 },
+    Power { head: u32 },
+    Space { size: usize },
+}
+
+#[derive(Clone, Debug, PartialEq, Eq)]
+pub enum Meaning {
+    PassedOver,
+    Command(Command),
+    Error,
+}
+
+/// What a line means, given without its newline.
+pub fn meaning(line: &[u8]) -> Meaning {
+    let line = line.strip_suffix(b"\r").unwrap_or(line);
+    if line.len() > LONGEST_LINE {
+        return Meaning::Error;
+    }
+    let words: Vec<&[u8]> =
+        line.split(|byte| matches!(byte, b' ' | b'\t')).filter(|word| !word.is_empty()).collect();
+    match words.first() {
+        None => Meaning::PassedOver,
+        Some(first) if first.starts_with(b"#") => Meaning::PassedOver,
+        Some(_) => command(&words).map_or(Meaning::Error, Meaning::Command),
+    }
+}
+
+fn command(words: &[&[u8]]) -> Option<Command> {
+    match *words {
+        [b"head", node] => Some(Command::Head { node: unsigned(node)? }),
+        [b"send", time, hex] => Some(Command::Send { time: unsigned(time)?, bytes: bytes(hex)? }),
+        [b"tick", time] => Some(Command::Tick { time: unsigned(time)? }),
+        [b"measure", head, value] => Some(Command::Measure { head: unsigned(head)?, value: signed(value)? }),
+        [b"keys", head, state] => Some(Command::Keys { head: unsigned(head)?, state: unsigned(state)? }),
+        [b"power", head] => Some(Command::Power { head: unsigned(head)? }),
+        [b"space", size] => {
+            let size = unsigned(size)? as usize;
+            (size <= LARGEST_SPACE).then_some(Command::Space { size })
+        }
+        _ => None,
+    }
+}
+
+/// Decimal digits, leading zeros too, of a number that fits 32 bits.
+fn unsigned(word: &[u8]) -> Option<u32> {
+    if word.is_empty() {
+        return None;
+    }
+    word.iter().try_fold(0_u32, |number, &byte| {
+        let digit = byte.is_ascii_digit().then(|| u32::from(byte - b'0'))?;
+        number.checked_mul(10)?.checked_add(digit)
+    })
+}
+
+/// Decimal digits, perhaps after a minus sign, of a number that fits a signed 32-bit number.
+fn signed(word: &[u8]) -> Option<i32> {
+    let number = match word.strip_prefix(b"-") {
+        Some(digits) => -i64::from(unsigned(digits)?),
+        None => i64::from(unsigned(word)?),
+    };
+    i32::try_from(number).ok()
+}
+
+/// Two hex digits for each byte, at least one byte.
+fn bytes(word: &[u8]) -> Option<Vec<u8>> {
+    if word.is_empty() {
+        return None;
+    }
+    let byte = |digits: &[u8]| match *digits {
+        [high, low] => Some(hex_digit(high)? << 4 | hex_digit(low)?),
+        _ => None,
+    };
+    word.chunks(2).map(byte).collect()
+}
+
+fn hex_digit(byte: u8) -> Option<u8> {
+    char::from(byte).to_digit(16).map(|digit| digit as u8)
+}
+
+/// A line of heads under a script.
+#[derive(Clone, Debug)]
+pub struct Simulation {
+    line: Line,
+    space: usize,
+    lines_read: u64,
+}
+
+impl Default for Simulation {
+    fn default() -> Simulation {
+        Simulation { line: Line::new(), space: FIRST_SPACE, lines_read: 0 }
+    }
+}
+
+impl Simulation {
+    pub fn new() -> Simulation {
+        Simulation::default()
+    }
+
+    pub fn line(&self) -> &Line {
+        &self.line
+    }
+
+    pub fn space(&self) -> usize {
+        self.space
+    }
+
+    /// The answer to the next line of the script; none if it is passed over.
+    pub fn answer(&mut self, line: &[u8]) -> Option<String> {
+        self.lines_read += 1;
+        match meaning(line) {
+            Meaning::PassedOver => None,
+            Meaning::Command(command) => Some(self.obey(command)),
+            Meaning::Error => Some(format!("error at line {}", self.lines_read)),
+        }
+    }
+
+    fn obey(&mut self, command: Command) -> String {
+        let outcome = match command {
+            Command::Head { node } => self.line.grow(node),
+            Command::Send { time, bytes } => return self.send(time, &bytes),
+            Command::Tick { time } => {
+                self.line.tick(time);
+                Ok(())
+            }
+            Command::Measure { head, value } => self.line.measure(head, value),
+            Command::Keys { head, state } => self.line.keys(head, state),
+            Command::Power { head } => self.line.power(head),
+            Command::Space { size } => {
+                self.space = size;
+                Ok(())
+            }
+        };
+        match outcome {
+            Ok(()) => "ok".to_string(),
+            Err(refusal) => refused(refusal),
+        }
+    }
+
+    fn send(&mut self, time: u32, bytes: &[u8]) -> String {
+        let mut answer = "sent".to_string();
+        let mut space = vec![0; self.space];
+        for &byte in bytes {
+            match self.line.byte(time, byte, &mut space) {
+                // The space is the same for all bytes, so the first is refused and nothing has changed.
+                Err(refusal) => return refused(refusal),
+                Ok(0) => {}
+                Ok(1) => {
+                    answer.push(' ');
+                    answer.push_str(&hex(&space[..crate::telegram::TELEGRAM_LENGTH]));
+                }
+                Ok(replies) => write!(answer, " collision {replies}").expect("a string takes it"),
+            }
+        }
+        answer
+    }
+}
+
+fn refused(refusal: Refusal) -> String {
+    format!("refused {}", refusal.number())
+}
+
+pub fn hex(bytes: &[u8]) -> String {
+    bytes.iter().map(|byte| format!("{byte:02X}")).collect()
+}
+
+/// Answers a whole script, each line as soon as it is read.
+pub fn run(mut input: impl BufRead, mut output: impl Write) -> io::Result<()> {
+    let mut simulation = Simulation::new();
+    let mut line = Vec::new();
+    while read_line(&mut input, &mut line)? {
+        if let Some(answer) = simulation.answer(&line) {
+            writeln!(output, "{answer}")?;
+            output.flush()?;
+        }
+    }
+    Ok(())
+}
+
+/// Reads a line without its newline; false at the end of the input. Of a line that is too long only so much
+/// is kept that it stays too long, so that memory does not grow with the input.
+fn read_line(input: &mut impl BufRead, line: &mut Vec<u8>) -> io::Result<bool> {
+    const KEPT: usize = LONGEST_LINE + 2;
+    line.clear();
+    let mut has_begun = false;
+    loop {
+        let piece = match input.fill_buf() {
+            Ok(piece) => piece,
+            Err(error) if error.kind() == ErrorKind::Interrupted => continue,
+            Err(error) => return Err(error),
+        };
+        if piece.is_empty() {
+            return Ok(has_begun);
+        }
+        has_begun = true;
+        let newline = piece.iter().position(|&byte| byte == b'\n');
+        let length = newline.unwrap_or(piece.len());
+        let room = KEPT - line.len();
+        line.extend_from_slice(&piece[..length.min(room)]);
+        input.consume(length + usize::from(newline.is_some()));
+        if newline.is_some() {
+            return Ok(true);
+        }
+    }
+}
+
+#[cfg(test)]
+mod tests {
+    use super::*;
+
+    fn output_of(script: &[u8]) -> String {
+        let mut output = Vec::new();
+        run(script, &mut output).unwrap();
+        String::from_utf8(output).unwrap()
+    }
+
+    #[test]
+    fn every_command_is_understood() {
+        let commands: [(&[u8], Command); 8] = [
+            (b"head 31", Command::Head { node: 31 }),
+            (b"send 7 00fFA0", Command::Send { time: 7, bytes: vec![0x00, 0xFF, 0xA0] }),
+            (b"tick 4294967295", Command::Tick { time: u32::MAX }),
+            (b"measure 0 -2147483648", Command::Measure { head: 0, value: i32::MIN }),
+            (b"\t keys  1\t5 ", Command::Keys { head: 1, state: 5 }),
+            (b"power 0000000000000002", Command::Power { head: 2 }),
+            (b"space 64\r", Command::Space { size: 64 }),
+            (b"measure 0 -0", Command::Measure { head: 0, value: 0 }),
+        ];
+        for (line, command) in commands {
+            assert_eq!(meaning(line), Meaning::Command(command));
+        }
+    }
+
+    #[test]
+    fn blank_lines_and_comments_are_passed_over() {
+        for line in [&b""[..], b"\r", b" \t ", b"#", b"#send", b"  # head 1", b"\t#\xFF\x00"] {
+            assert_eq!(meaning(line), Meaning::PassedOver);
+        }
+    }
+
+    #[test]
+    fn what_is_no_command_is_an_error() {
+        let lines = b"heads 1|HEAD 1|head|head 1 2|head -1|head +1|head 1a|head 0x1|head 4294967296|head 1#|\
+            head 99999999999999999999|send 0|send 0 0|send 0 000|send 0 0G|send 0 00 00|send 0 0x00|\
+            send 4294967296 00|tick|tick 1 2|measure 0|measure 0 2147483648|measure 0 -2147483649|\
+            measure 0 -|measure 0 --1|measure 0 +1|measure -0 1|keys 0 -1|power|space 65|space -1|\
+            head 1\r\r|head\x0B1|\xFF\x00";
+        for line in lines.split(|&byte| byte == b'|') {
+            assert_eq!(meaning(line), Meaning::Error, "{}", line.escape_ascii());
+        }
+    }
+
+    #[test]
+    fn a_line_has_up_to_4096_bytes() {
+        for (length, ending, answer) in [
+            (4_096, "\n", "ok\n"),
+            (4_096, "\r\n", "ok\n"),
+            (4_096, "", "ok\n"),
+            (4_097, "\n", "error at line 1\n"),
+            (4_097, "\r\n", "error at line 1\n"),
+            (4_098, "", "error at line 1\n"),
+            (60_000, "\r\n", "error at line 1\n"),
+        ] {
+            let script = format!("{:<length$}{ending}", "head 1");
+            assert_eq!(output_of(script.as_bytes()), answer, "{length} bytes");
+        }
+    }
+
+    #[test]
+    fn a_comment_that_is_too_long_is_an_error() {
+        let script = format!("#{}\nhead 0\n", "-".repeat(4_096));
+        assert_eq!(output_of(script.as_bytes()), "error at line 1\nrefused 1\n");
+    }
+
+    #[test]
+    fn every_line_counts_and_the_last_may_lack_its_newline() {
+        assert_eq!(output_of(b"\n# two\r\nthree\n\nfive"), "error at line 3\nerror at line 5\n");
+        assert_eq!(output_of(b""), "");
+        assert_eq!(output_of(b"\n"), "");
+        assert_eq!(output_of(b"head 1\r"), "ok\n");
+    }
+
+    #[test]
+    fn an_error_changes_nothing_and_the_script_goes_on() {
+        assert_eq!(
+            output_of(b"head 31\nspace 65\nsend 0 001F200000000000003F\n"),
+            "ok\nerror at line 2\nsent 001F200000000000053A\n"
+        );
+    }
+
+    #[test]
+    fn long_lines_in_small_pieces_read_the_same() {
+        let script = format!("head 31\n{}\nsend 0 001F200000000000003F\n", "x".repeat(9_000));
+        let mut output = Vec::new();
+        run(io::BufReader::with_capacity(7, script.as_bytes()), &mut output).unwrap();
+        assert_eq!(output, b"ok\nerror at line 2\nsent 001F200000000000053A\n");
+    }
+}

@@ -1,0 +1,28 @@
+//! The collections of cases of the programs give the answers that were worked out for them.
+
+use reference::head::Head;
+use reference::script::{self, hex};
+
+fn assert_same_lines(answers: &str, expected: &str) {
+    for (number, (answer, expected)) in answers.lines().zip(expected.lines()).enumerate() {
+        assert_eq!(answer, expected, "answer {}", number + 1);
+    }
+    assert_eq!(answers.lines().count(), expected.lines().count());
+}
+
+#[test]
+fn the_cases_of_simulate() {
+    let script = include_bytes!("../../crates/simulate/stdin");
+    let mut output = Vec::new();
+    script::run(&script[..], &mut output).unwrap();
+    assert_same_lines(&String::from_utf8(output).unwrap(), include_str!("../../crates/simulate/stdout"));
+}
+
+#[test]
+fn the_cases_of_bench() {
+    let bytes = include_bytes!("../../crates/bench/stdin");
+    let mut head = Head::factory();
+    let replies = bytes.iter().filter_map(|&byte| head.byte(0, byte));
+    let answers: String = replies.map(|reply| hex(&reply) + "\n").collect();
+    assert_same_lines(&answers, include_str!("../../crates/bench/stdout"));
+}

@@ -1,0 +1,94 @@
+//! Each refusal number that calls on a line can draw, what goes before what, and that nothing changes.
+
+mod common;
+use common::{Desk, READ};
+use reference::line::{Line, Refusal};
+
+#[test]
+fn refusal_1_node_number() {
+    let mut desk = Desk::with_heads(&[]);
+    for node in ["0", "128", "300", "4294967295"] {
+        assert_eq!(desk.line(&format!("head {node}")), "refused 1");
+    }
+    assert_eq!(desk.line("power 0"), "refused 3");
+    desk.ok("head 1");
+    desk.ok("head 127");
+}
+
+#[test]
+fn refusal_2_ninth_head_goes_before_1() {
+    let mut desk = Desk::with_heads(&[1, 2, 3, 4, 5, 6, 7, 8]);
+    assert_eq!(desk.line("head 9"), "refused 2");
+    assert_eq!(desk.line("head 0"), "refused 2");
+    assert_eq!(desk.line("power 8"), "refused 3");
+    desk.ok("power 7");
+}
+
+#[test]
+fn refusal_3_head_number_goes_before_4_and_5() {
+    let mut desk = Desk::with_heads(&[31]);
+    for line in ["measure 1 0", "measure 1 3000000", "keys 1 0", "keys 4294967295 9", "power 1"] {
+        assert_eq!(desk.line(line), "refused 3", "{line}");
+    }
+}
+
+#[test]
+fn refusal_4_measurement() {
+    let mut desk = Desk::with_heads(&[31]);
+    desk.ok("measure 0 2500000");
+    for value in ["2500001", "-2500001", "3000000", "2147483647", "-2147483648"] {
+        assert_eq!(desk.line(&format!("measure 0 {value}")), "refused 4");
+    }
+    assert_eq!(desk.read(0xFE), 2_500_000);
+    desk.ok("measure 0 -2500000");
+    assert_eq!(desk.read(0xFE), -2_500_000);
+}
+
+#[test]
+fn refusal_5_key_state() {
+    let mut desk = Desk::with_heads(&[31]);
+    desk.ok("keys 0 7");
+    assert_eq!(desk.line("keys 0 8"), "refused 5");
+    assert_eq!(desk.line("keys 0 4294967295"), "refused 5");
+    assert_eq!(desk.status() >> 13, 7);
+}
+
+#[test]
+fn refusal_6_reply_space_at_any_byte() {
+    let mut desk = Desk::with_heads(&[]);
+    desk.ok("space 9");
+    assert_eq!(desk.line("send 0 00"), "refused 6");
+    desk.ok("head 31");
+    desk.ok("space 0");
+    assert_eq!(desk.line("send 0 001F2000"), "refused 6");
+    desk.ok("space 10");
+    // Had a head heard the refused bytes, this would not be its telegram.
+    assert_eq!(desk.telegram(READ, 31, 0x20, 0, 0), "001F200000000000053A");
+}
+
+#[test]
+fn the_space_past_a_reply_and_under_a_collision_is_unchanged() {
+    let mut line = Line::new();
+    line.grow(31).unwrap();
+    line.grow(12).unwrap();
+    let read_of_31 = [0x00, 0x1F, 0x20, 0, 0, 0, 0, 0, 0, 0x3F];
+    let mut space = [0xEE; 12];
+    for &byte in &read_of_31[..9] {
+        assert_eq!(line.byte(0, byte, &mut space), Ok(0));
+        assert_eq!(space, [0xEE; 12]);
+    }
+    assert_eq!(line.byte(0, 0x3F, &mut space), Ok(1));
+    assert_eq!(space, [0x00, 0x1F, 0x20, 0, 0, 0, 0, 0, 5, 0x3A, 0xEE, 0xEE]);
+
+    line.grow(31).unwrap();
+    let mut space = [0xEE; 12];
+    for &byte in &read_of_31[..9] {
+        assert_eq!(line.byte(0, byte, &mut space), Ok(0));
+    }
+    assert_eq!(line.byte(0, 0x3F, &mut space), Ok(2));
+    assert_eq!(space, [0xEE; 12]);
+
+    let mut short = [0xEE; 9];
+    assert_eq!(line.byte(0, 0x3F, &mut short), Err(Refusal::ReplySpace));
+    assert_eq!(short, [0xEE; 9]);
+}
