@@ -33,7 +33,7 @@ use Rattle.demands.specs.Run.{after}
 pub after-keeps : (c : Call) (l : Line) → Kept l (after c l)
 unfolding after
 after-keeps (newHead node) l = grow-keeps l node
-after-keeps (byte b t s) l = byte-keeps l b t s
+after-keeps (byte b t s) l = byte-keeps l b t _
 after-keeps (tick t) l = tick-keeps l t
 after-keeps (measure j m) l = measure-keeps l j m
 after-keeps (keys j s) l = keys-keeps l j s
@@ -86,7 +86,7 @@ tick-count l t = either (λ (c : Called). c .line .count) (fitsOf l) _ _ (l .cou
 pub after-count : (c : Call) (l : Line) → fitsOf l ≡ true → after c l .count ≡ grown c (l .count)
 unfolding after grown
 after-count (newHead node) l f = grow-count l node f
-after-count (byte b t s) l f = byte-count l b t s
+after-count (byte b t s) l f = byte-count l b t _
 after-count (tick t) l f = tick-count l t
 after-count (measure j m) l f = measure-one l j m .0
 after-count (keys j s) l f = keys-one l j s .0
