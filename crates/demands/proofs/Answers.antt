@@ -1,8 +1,8 @@
--- Demand 2, proved: the byte call is tied to the definition of a telegram's way through a head, and every reply is sound.
+-- The byte call is tied to the definition of a telegram's way through a head, and every reply is sound.
 -- Assumes nothing.
 use Prim.Native.Nat.{ℕ, zero, suc}
 use native.Mathlib.Omega.{arith}
-use mathlib.Core.Path.{_≡_, refl, sym}
+use mathlib.Core.Path.{_≡_, refl, sym, _∙_}
 use mathlib.Core.Bool.{Bool, true, false, true≢false}
 use mathlib.Core.List.{List, [], _∷_, _++_}
 use borrow.Author.Tests.{le-ltb}
@@ -10,6 +10,7 @@ use lib.Dec.{ltb}
 use lib.ListN.{length, take, drop}
 use lib.Seq.{take-at}
 use Rattle.wire.specs.Check.{soundOf}
+use Rattle.judge.specs.declared.deed.Deed.the-variants.{Restart}
 use Rattle.judge.specs.Judged.{judgedOf}
 use Rattle.state.specs.declared.parts.Head.{Head}
 use Rattle.state.specs.Status.{statusOf}
@@ -17,35 +18,37 @@ use Rattle.state.specs.Wellformed.{wellformedOf}
 use Rattle.head.specs.declared.calls.Heard.{Heard}
 use Rattle.head.specs.declared.calls.Heard.the-variants as heard
 use Rattle.head.specs.declared.refusal.Refusal.the-variants.{Space, Malformed}
-use Rattle.head.specs.Reply.{replyOf}
+use Rattle.reply.specs.Reply.{replyOf}
 use Rattle.head.specs.Hear.{standingOf, gatheredOf, toldOf, tellOf, withEar, stepOf}
-use Rattle.head.specs.Calls.{laidOn, byteOf, byteSpaceOf}
-use Rattle.head.proofs.Replies.{reply-sound, reply-ten}
+use Rattle.head.specs.Calls.{laidOn, byteOf, byteSpaceOf, powerOf}
+use Rattle.head.specs.Outcome.{power, called}
+use Rattle.head.proofs.Again.{restart-told}
+use Rattle.reply.proofs.Replies.{reply-sound, reply-ten}
 use Rattle.line.specs.declared.calls.Line.{Line}
 use Rattle.line.specs.Round.{saidBy, repliesOf}
 use Rattle.line.specs.Calls as line
-use Rattle.demands.specs.Demand2.{Taken, Demand2}
+use Rattle.demands.specs.Alone.{Taken}
 
 module _ (h : Head) (b t : ℕ) (space : List ℕ) (k : Taken h space) where
   wide : ltb (length space) 10 ≡ false
   wide = le-ltb (length space) 10 (k .room)
 
-  gathers : gatheredOf (h .ear) b t .whole ≡ false
+  pub gathers : gatheredOf (h .ear) b t .whole ≡ false
       → (byteOf h b t (length space) ≡ record { head = withEar h (gatheredOf (h .ear) b t .ear); heard = heard.Replies 0 }) × (byteSpaceOf h b t space ≡ space)
   unfolding byteOf byteSpaceOf stepOf
   gathers e = (simp (k .well, wide, e), simp (k .well, wide, e))
 
   module _ (e : gatheredOf (h .ear) b t .whole ≡ true) where
-    obeys : byteOf h b t (length space) .head ≡ toldOf (judgedOf (gatheredOf (h .ear) b t .ten) (standingOf h)) h t
+    pub obeys : byteOf h b t (length space) .head ≡ toldOf (judgedOf (gatheredOf (h .ear) b t .ten) (standingOf h)) h t
     unfolding byteOf stepOf tellOf
     obeys = simp (k .well, wide, e)
 
-    answers : let j = judgedOf (gatheredOf (h .ear) b t .ten) (standingOf h) in replyOf j h (statusOf h) .replied ≡ true
+    pub answers : let j = judgedOf (gatheredOf (h .ear) b t .ten) (standingOf h) in replyOf j h (statusOf h) .replied ≡ true
         → (byteOf h b t (length space) .heard ≡ heard.Replies 1) × (byteSpaceOf h b t space ≡ replyOf j h (statusOf h) .reply ++ drop 10 space)
     unfolding byteOf byteSpaceOf stepOf tellOf laidOn
     answers r = (simp (k .well, wide, e, r), simp (k .well, wide, e, r))
 
-    keeps-silent : let j = judgedOf (gatheredOf (h .ear) b t .ten) (standingOf h) in replyOf j h (statusOf h) .replied ≡ false
+    pub keeps-silent : let j = judgedOf (gatheredOf (h .ear) b t .ten) (standingOf h) in replyOf j h (statusOf h) .replied ≡ false
         → (byteOf h b t (length space) .heard ≡ heard.Replies 0) × (byteSpaceOf h b t space ≡ space)
     unfolding byteOf byteSpaceOf stepOf tellOf
     keeps-silent r = (simp (k .well, wide, e, r), simp (k .well, wide, e, r))
@@ -65,7 +68,7 @@ laid-sound : (space x : List ℕ) → ltb (length space) 10 ≡ false → Sound 
 unfolding laidOn
 laid-sound space x e s = simp e (rw (take-at x (drop 10 space) 10 (s .1)) (s .0))
 
-head-sound : (h : Head) (b t : ℕ) (space : List ℕ) (w r s : Bool) → wellformedOf h ≡ w → ltb (length space) 10 ≡ r → stepOf h b t .replied ≡ s
+pub head-sound : (h : Head) (b t : ℕ) (space : List ℕ) (w r s : Bool) → wellformedOf h ≡ w → ltb (length space) 10 ≡ r → stepOf h b t .replied ≡ s
     → byteOf h b t (length space) .heard ≡ heard.Replies 1 → soundOf (take 10 (byteSpaceOf h b t space)) ≡ true
 unfolding byteOf byteSpaceOf
 head-sound h b t space false r s p q x e = absurd (let k : heard.Refused Malformed ≡ heard.Replies 1 = simp p at e in let z : _≡_ {A = ℕ} 0 1 = cc in omega arith)
@@ -96,7 +99,7 @@ laid-by [] space e a n = absurd (omega arith)
 laid-by (x ∷ []) space e a n = laid-sound space x e (a .0)
 laid-by (x ∷ (y ∷ rs)) space e a n = absurd (omega arith)
 
-line-sound : (l : Line) (b t : ℕ) (space : List ℕ) (f r : Bool) → line.fitsOf l ≡ f → ltb (length space) 10 ≡ r
+pub line-sound : (l : Line) (b t : ℕ) (space : List ℕ) (f r : Bool) → line.fitsOf l ≡ f → ltb (length space) 10 ≡ r
     → line.byteOf l b t (length space) .heard ≡ heard.Replies 1 → soundOf (take 10 (line.byteSpaceOf l b t space)) ≡ true
 unfolding line.byteOf line.byteSpaceOf
 line-sound l b t space false r p q e = absurd (let k : heard.Refused Malformed ≡ heard.Replies 1 = simp p at e in let z : _≡_ {A = ℕ} 0 1 = cc in omega arith)
@@ -106,13 +109,8 @@ line-sound l b t space true false p q e =
     let n : length (line.repliesAt l b t) ≡ 1 = cc in
     simp (p, q) (laid-by (line.repliesAt l b t) space q (all-sound (l .count) (l .heads) b t) n)
 
-pub demand2 : Demand2
-demand2 =
-    record {
-      gathers = gathers;
-      obeys = obeys;
-      answers = answers;
-      keeps-silent = keeps-silent;
-      head-sound = λ h b t space. head-sound h b t space (wellformedOf h) (ltb (length space) 10) (stepOf h b t .replied) refl refl refl;
-      line-sound = λ l b t space. line-sound l b t space (line.fitsOf l) (ltb (length space) 10) refl refl;
-    }
+-- ---- a restart by telegram is the restart by power
+pub restarts : (h : Head) (b t : ℕ) (space : List ℕ) (k : Taken h space) → gatheredOf (h .ear) b t .whole ≡ true
+    → judgedOf (gatheredOf (h .ear) b t .ten) (standingOf h) .deed ≡ Restart → byteOf h b t (length space) .head ≡ called power h .head
+unfolding called powerOf
+restarts h b t space k e d = obeys h b t space k e ∙ restart-told _ (standingOf h) h t d ∙ rw (k .well)

@@ -2,42 +2,43 @@
 -- there alone. By cases on the tests of the call.
 -- Assumes nothing.
 use Prim.Native.Nat.{ℕ, suc, _<_, _≤_}
-use mathlib.Core.Path.{_≡_, refl, sym}
+use mathlib.Core.Path.{_≡_, refl, sym, _∙_}
 use mathlib.Core.Bool.{Bool, true, false, cond, _&&_, and-eq-true-iff}
 use native.Mathlib.Numerals.{add-one}
 use native.Mathlib.Omega.{arith}
 use borrow.Author.Tests.{ltb-true, leb-true, eqb-true, eqb-false, le-leb, leb-false, lt-ltb}
 use lib.Dec.{leb, ltb, eqb}
-use lib.IntN.{ℤ}
 use lib.ListN.{length, set, getD}
 use lib.Seq.{getD-set-same, getD-set-other}
 use Rattle.rows.proofs.Laws.{node-limits, node-fits}
 use Rattle.state.specs.declared.parts.Head.{Head}
-use Rattle.state.specs.Wellformed.{inReachOf}
-use Rattle.effects.specs.Restart.{restartedOf, freshOf}
-use Rattle.head.specs.declared.refusal.Refusal.{Refusal}
-use Rattle.head.specs.declared.refusal.Refusal.the-variants.{Node, Full, NoHead, OutOfReach, Keys}
+use Rattle.effects.specs.Restart.{freshOf}
+use Rattle.head.specs.declared.refusal.Refusal.the-variants.{Node, Full, NoHead}
 use Rattle.head.specs.Hear.{stepOf}
-use Rattle.head.specs.Moves.{tickedOf, measuredOf, keyedOf}
-use Rattle.head.specs.Calls.{factoryOf, nodeFits}
+use Rattle.head.specs.Moves.{tickedOf}
+use Rattle.head.specs.Calls.{guarded, factoryOf, nodeFits}
+use Rattle.head.specs.Outcome.{called, own, next}
+use Rattle.head.proofs.Asked.{called-head, called-fits}
 use Rattle.line.specs.declared.calls.Line.{Line}
 use Rattle.line.specs.declared.calls.Called.{Called}
 use Rattle.line.specs.declared.calls.Fed.{Fed}
-use Rattle.line.specs.Calls.{fitsOf, headAt, doneWith, refusedWith, placedOf, grownBy, growOf, byteOf, tickOf, measureOf, keysOf, powerOf}
+use Rattle.line.specs.Calls.{fitsOf, headAt, doneWith, refusedWith, placedOf, grownBy, growOf, byteOf, tickOf, putBack, namedOf}
 use Rattle.line.proofs.Laws.{fits-small}
-use Rattle.line.proofs.Theorems.{Kept, grow-keeps, byte-keeps, tick-keeps, measure-keeps, keys-keeps, power-keeps, measure-one, keys-one, power-one, tick-alone, byte-alone}
-use Rattle.demands.specs.Calls.{Call, newHead, byte, tick, measure, keys, power}
-use Rattle.demands.specs.Past.{mayAdd, grown, room, makes, cuts}
-use Rattle.demands.specs.Run.{after}
+use Rattle.line.proofs.Theorems.{Kept, grow-keeps, byte-keeps, tick-keeps, named-keeps, named-one, tick-alone, byte-alone, well-at}
+use Rattle.demands.specs.Calls.{Ask, Call, newHead, byte, tick, named}
+use Rattle.demands.specs.Past.{mayAdd, grown, room, makes, names}
+use Rattle.demands.specs.Run.{product, askOf, aloneOf, after}
+use Rattle.demands.proofs.Named.{ask-is}
 
-pub after-keeps : (c : Call) (l : Line) → Kept l (after c l)
+ask-keeps : (a : Ask) (l : Line) (j : ℕ) → Kept l (askOf a l j .line)
+ask-keeps a l j = rw (ask-is a l j) (named-keeps l j (called (aloneOf a) (headAt l j)) (called-fits (aloneOf a) (headAt l j)))
+
+pub after-keeps : (c : Call) (l : Line) → Kept l (after (product .onLine) c l)
 unfolding after
 after-keeps (newHead node) l = grow-keeps l node
 after-keeps (byte b t s) l = byte-keeps l b t _
 after-keeps (tick t) l = tick-keeps l t
-after-keeps (measure j m) l = measure-keeps l j m
-after-keeps (keys j s) l = keys-keeps l j s
-after-keeps (power j) l = power-keeps l j
+after-keeps (named j a) l = ask-keeps a l j
 
 -- ---- how many heads
 same : (a b : Bool) → (a ≡ true → b ≡ true) → (b ≡ true → a ≡ true) → a ≡ b
@@ -83,24 +84,27 @@ tick-count : (l : Line) (t : ℕ) → tickOf l t .line .count ≡ l .count
 unfolding tickOf
 tick-count l t = either (λ (c : Called). c .line .count) (fitsOf l) _ _ (l .count) refl refl
 
-pub after-count : (c : Call) (l : Line) → fitsOf l ≡ true → after c l .count ≡ grown c (l .count)
+ask-count : (a : Ask) (l : Line) (j : ℕ) → askOf a l j .line .count ≡ l .count
+ask-count a l j = rw (ask-is a l j) (named-one l j (called (aloneOf a) (headAt l j)) .0)
+
+pub after-count : (c : Call) (l : Line) → fitsOf l ≡ true → after (product .onLine) c l .count ≡ grown c (l .count)
 unfolding after grown
 after-count (newHead node) l f = grow-count l node f
 after-count (byte b t s) l f = byte-count l b t _
 after-count (tick t) l f = tick-count l t
-after-count (measure j m) l f = measure-one l j m .0
-after-count (keys j s) l f = keys-one l j s .0
-after-count (power j) l f = power-one l j .0
+after-count (named j a) l f = ask-count a l j
 
 -- ---- which head
+-- what a call that names a head makes of it: nothing where one of its own tests fails
+unfoldable pub askedOf : Ask → Head → Head
+askedOf a h = guarded (λ why. h) (own (aloneOf a)) (next (aloneOf a) h)
+
 -- what a call makes of the head h at place k of n
 unfoldable pub headBy : Call → ℕ → ℕ → Head → Head
 headBy (newHead node) n k h = cond (makes n node k) (freshOf node) h
 headBy (byte b t s) n k h = cond (room s) (stepOf h b t .head) h
 headBy (tick t) n k h = tickedOf h t
-headBy (measure j m) n k h = cond (ltb j n && (inReachOf m && eqb k j)) (measuredOf h m) h
-headBy (keys j s) n k h = cond (ltb j n && (leb s 7 && eqb k j)) (keyedOf h s) h
-headBy (power j) n k h = cond (cuts n j k) (restartedOf h) h
+headBy (named j a) n k h = cond (names n j k) (askedOf a h) h
 
 -- a head changed in its place, seen at each place
 set-seen : (l : Line) (j k : ℕ) (g : Head → Head) → j < length (l .heads)
@@ -136,38 +140,29 @@ module _ (l : Line) (f : fitsOf l ≡ true) (e : length (l .heads) ≡ 8) where
       go true p = byte-alone l f e k lt b t s (leb-true 10 s p)
       go false p = byte-short l b t s k (leb-false 10 s p)
 
-  -- a call that names a head, by its test
-  named : (j k : ℕ) (x : Bool) (g : Head → Head) (why : Refusal)
-      → headAt (cond (ltb j (l .count)) (cond x (doneWith (placedOf l j (g (headAt l j)))) (refusedWith l why)) (refusedWith l NoHead) .line) k
-      ≡ cond (ltb j (l .count) && (x && eqb k j)) (g (headAt l k)) (headAt l k)
-  unfolding placedOf
-  named j k x g why = go (ltb j (l .count)) refl x
+  ask-at : (a : Ask) (j k : ℕ) → headAt (askOf a l j .line) k ≡ cond (names (l .count) j k) (askedOf a (headAt l k)) (headAt l k)
+  unfolding askedOf namedOf placedOf
+  ask-at a j k = rw (ask-is a l j, f) (go (ltb j (l .count)) refl)
     where
-      go : (b : Bool) → ltb j (l .count) ≡ b → (x : Bool)
-          → headAt (cond b (cond x (doneWith (placedOf l j (g (headAt l j)))) (refusedWith l why)) (refusedWith l NoHead) .line) k
-          ≡ cond (b && (x && eqb k j)) (g (headAt l k)) (headAt l k)
-      go true p true = set-seen l j k g (there j (ltb-true _ _ p))
-      go true p false = refl
-      go false p x = refl
+      g : Head → Head
+      g h = called (aloneOf a) h .head
 
-  measure-at : (j : ℕ) (m : ℤ) (k : ℕ) → headAt (measureOf l j m .line) k ≡ headBy (measure j m) (l .count) k (headAt l k)
-  unfolding measureOf headBy
-  measure-at j m k = rw f (named j k (inReachOf m) (λ h. measuredOf h m) OutOfReach)
-
-  keys-at : (j s k : ℕ) → headAt (keysOf l j s .line) k ≡ headBy (keys j s) (l .count) k (headAt l k)
-  unfolding keysOf headBy
-  keys-at j s k = rw f (named j k (leb s 7) (λ h. keyedOf h s) Keys)
-
-  power-at : (j k : ℕ) → headAt (powerOf l j .line) k ≡ headBy (power j) (l .count) k (headAt l k)
-  unfolding powerOf headBy
-  power-at j k = rw f (named j k true restartedOf NoHead)
+      go : (b : Bool) → ltb j (l .count) ≡ b
+          → headAt (cond b (putBack l j (called (aloneOf a) (headAt l j))) (refusedWith l NoHead) .line) k
+          ≡ cond (b && eqb k j) (guarded (λ why. headAt l k) (own (aloneOf a)) (next (aloneOf a) (headAt l k))) (headAt l k)
+      go false p = refl
+      go true p = set-seen l j k g (there j (ltb-true _ _ p)) ∙ at-k (eqb k j) refl
+        where
+          at-k : (c : Bool) → eqb k j ≡ c
+              → cond c (g (headAt l k)) (headAt l k)
+              ≡ cond c (guarded (λ why. headAt l k) (own (aloneOf a)) (next (aloneOf a) (headAt l k))) (headAt l k)
+          at-k true e = let q : k < l .count = rw (eqb-true k j e) (ltb-true _ _ p) in called-head (aloneOf a) (headAt l k) (well-at l f k q)
+          at-k false e = refl
 
   -- a byte and a tick reach the heads that there are
-  pub after-at : (c : Call) (k : ℕ) → k < grown c (l .count) → headAt (after c l) k ≡ headBy c (l .count) k (headAt l k)
+  pub after-at : (c : Call) (k : ℕ) → k < grown c (l .count) → headAt (after (product .onLine) c l) k ≡ headBy c (l .count) k (headAt l k)
   unfolding after grown headBy
   after-at (newHead node) k lt = grow-at node k
   after-at (byte b t s) k lt = byte-at b t s k lt
   after-at (tick t) k lt = tick-alone l f e k lt t
-  after-at (measure j m) k lt = measure-at j m k
-  after-at (keys j s) k lt = keys-at j s k
-  after-at (power j) k lt = power-at j k
+  after-at (named j a) k lt = ask-at a j k

@@ -8,7 +8,7 @@ use mathlib.Core.Bool.{Bool, true, false, cond, _||_, true≢false}
 use mathlib.Core.Logic.{_≢_, _⊎_, inl, inr, ⊎-elim}
 use mathlib.Core.List.{List, [], _∷_, _++_, append-assoc, append-nil}
 use native.Mathlib.Omega.{arith}
-use borrow.Author.Tests.{ltb-true, lt-ltb, le-ltb, le-leb, eqb-true}
+use borrow.Author.Tests.{ltb-true, lt-ltb, eqb-true}
 use lib.Dec.{leb, ltb, eqb}
 use lib.ListN.{length, getD, length-append}
 use lib.Seq.{drop-append-seam}
@@ -23,22 +23,26 @@ use Rattle.judge.specs.Commands.{commandOf, castsOf}
 use Rattle.judge.specs.Verdicts.{verdictOf}
 use Rattle.judge.specs.Deeds.{deedOf}
 use Rattle.judge.specs.Judged.{judgedOf}
-use Rattle.judge.proofs.Laws.{refused-mine, obeyed-mine}
+use Rattle.judge.proofs.Laws.{refused-mine, obeyed-mine, obeyed-sound}
 use Rattle.state.specs.declared.parts.Head.{Head}
+use Rattle.state.specs.declared.parts.Stored.{Stored}
 use Rattle.state.specs.Status.{statusOf}
 use Rattle.effects.specs.Stored.{storedBy}
-use Rattle.head.specs.Hear.{standingOf, toldOf, tellOf, stepOf}
+use Rattle.head.specs.declared.calls.Heard.{Heard}
+use Rattle.head.specs.declared.calls.Heard.the-variants as heard
+use Rattle.head.specs.declared.refusal.Refusal.the-variants.{Space}
+use Rattle.head.specs.Hear.{standingOf, restartsOf, toldOf, tellOf, stepOf}
 use Rattle.head.specs.Calls.{factoryOf}
-use Rattle.head.proofs.Replies.{silent-none, cast-none}
+use Rattle.reply.proofs.Replies.{silent-none, cast-none}
 use Rattle.line.specs.declared.calls.Line.{Line}
 use Rattle.line.specs.Round.{repliesOf}
-use Rattle.line.specs.Calls.{fitsOf, byteOf}
+use Rattle.line.specs.Calls.{fitsOf, repliesAt, byteOf}
 use Rattle.line.proofs.Theorems.{byte-alone}
-use Rattle.demands.specs.Calls.{Call, newHead, byte, tick, measure, keys, power, Calls, start, _▸_}
-use Rattle.demands.specs.Past.{count, room, heardAt, since, gather, kept, makes, cuts, gatheredBy, gathered, heard, whole, eventBy, event, inForce}
-use Rattle.demands.specs.Run.{after, run, at, repliesTo}
+use Rattle.demands.specs.Calls.{Call, newHead, byte, tick, named, Calls, start, _▸_}
+use Rattle.demands.specs.Past.{Ear, room, since, gather, kept, earBy, count, entry, inForce}
+use Rattle.demands.specs.Run.{after, built, runs, run, headIn}
 use Rattle.demands.specs.Demand3.{Differ, NoBroadcast, Unchanged}
-use Rattle.demands.proofs.Ear.{Gathered, ear-short, ear-whole}
+use Rattle.demands.proofs.Ear.{Gathered, ear-short, ear-whole, ear-all}
 use Rattle.demands.proofs.Sim.{fits, sim}
 
 -- ---- all that the line has heard, and what a head has gathered of it: its end
@@ -46,9 +50,7 @@ heardBy : Call → List ℕ → List ℕ
 heardBy (newHead node) l = l
 heardBy (byte b t s) l = cond (room s) (l ++ (b ∷ [])) l
 heardBy (tick t) l = l
-heardBy (measure j m) l = l
-heardBy (keys j s) l = l
-heardBy (power j) l = l
+heardBy (named j a) l = l
 
 stream : Calls → List ℕ
 stream start = []
@@ -61,12 +63,12 @@ ends-none : (s : List ℕ) → Ends [] s
 unfolding Ends
 ends-none s = (s, sym (append-nil s))
 
-ends-gather : (g s : List ℕ) (u b t : ℕ) → Ends g s → Ends (gather g u b t) (s ++ (b ∷ []))
+ends-gather : (g : Ear) (s : List ℕ) (b t : ℕ) → Ends (g .bytes) s → Ends (gather g b t) (s ++ (b ∷ []))
 unfolding Ends gather
-ends-gather g s u b t e = go (leb (since t u) 10)
+ends-gather g s b t e = go (leb (since t (g .last)) 10)
   where
-    go : (x : Bool) → Ends (cond x (g ++ (b ∷ [])) (b ∷ [])) (s ++ (b ∷ []))
-    go true = (e .0, rw (e .1) (append-assoc (e .0) g (b ∷ [])))
+    go : (x : Bool) → Ends (cond x (g .bytes ++ (b ∷ [])) (b ∷ [])) (s ++ (b ∷ []))
+    go true = (e .0, rw (e .1) (append-assoc (e .0) (g .bytes) (b ∷ [])))
     go false = (s, refl)
 
 -- what holds of no bytes and of these holds of either
@@ -78,20 +80,18 @@ ends-kept : (l s : List ℕ) → Ends l s → Ends (kept l) s
 unfolding kept
 ends-kept l s e = either (λ m. Ends m s) (ltb (length l) 10) l [] e (ends-none s)
 
-ends : (cs : Calls) (k : ℕ) → Ends (gathered cs k) (stream cs)
-unfolding gathered stream heardBy gatheredBy
-ends start k = ends-none []
-ends (cs ▸ newHead node) k = either (λ l. Ends l (stream cs)) (makes (count cs) node k) [] (gathered cs k) (ends-none (stream cs)) (ends cs k)
-ends (cs ▸ byte b t s) k = go (room s) (ends cs k)
-  where
-    go : (x : Bool) → Ends (gathered cs k) (stream cs)
-        → Ends (cond x (kept (gather (gathered cs k) (heardAt cs) b t)) (gathered cs k)) (cond x (stream cs ++ (b ∷ [])) (stream cs))
-    go true e = ends-kept _ _ (ends-gather (gathered cs k) (stream cs) (heardAt cs) b t e)
-    go false e = e
-ends (cs ▸ tick t) k = ends cs k
-ends (cs ▸ measure j m) k = ends cs k
-ends (cs ▸ keys j s) k = ends cs k
-ends (cs ▸ power j) k = either (λ l. Ends l (stream cs)) (cuts (count cs) j k) [] (gathered cs k) (ends-none (stream cs)) (ends cs k)
+ends-ear : (c : Call) (g : Ear) (l : List ℕ) → Ends (g .bytes) l → Ends (earBy c g .bytes) (heardBy c l)
+unfolding earBy heardBy
+ends-ear (newHead node) g l e = e
+ends-ear (byte b t s) g l e =
+    elim (room s) as (λ x. Ends (cond x (record { bytes = kept (gather g b t); last = t }) g .bytes) (cond x (l ++ (b ∷ [])) l))
+    [ true ↦ ends-kept _ _ (ends-gather g l b t e) | false ↦ e ]
+ends-ear (tick t) g l e = e
+ends-ear (named j a) g l e = e
+
+ends : (cs : Calls) (k : ℕ) → Ends (entry cs k .ear .bytes) (stream cs)
+unfolding stream
+ends = ear-all (λ cs l. Ends l (stream cs)) (λ cs. ends-none (stream cs)) (λ cs c g e. ends-ear c g (stream cs) e)
 
 -- ---- fewer than ten stand gathered
 Few : List ℕ → Type 0
@@ -109,20 +109,21 @@ few-kept l = go (ltb (length l) 10) refl
     go true e = ltb-true (length l) 10 e
     go false e = omega arith
 
-few : (cs : Calls) (k : ℕ) → Few (gathered cs k)
-unfolding gathered gatheredBy
-few start k = few-none
-few (cs ▸ newHead node) k = either Few (makes (count cs) node k) [] (gathered cs k) few-none (few cs k)
-few (cs ▸ byte b t s) k = either Few (room s) _ (gathered cs k) (few-kept (gather (gathered cs k) (heardAt cs) b t)) (few cs k)
-few (cs ▸ tick t) k = few cs k
-few (cs ▸ measure j m) k = few cs k
-few (cs ▸ keys j s) k = few cs k
-few (cs ▸ power j) k = either Few (cuts (count cs) j k) [] (gathered cs k) few-none (few cs k)
+few-ear : (c : Call) (g : Ear) → Few (g .bytes) → Few (earBy c g .bytes)
+unfolding earBy
+few-ear (newHead node) g h = h
+few-ear (byte b t s) g h =
+    elim (room s) as (λ x. Few (cond x (record { bytes = kept (gather g b t); last = t }) g .bytes)) [ true ↦ few-kept (gather g b t) | false ↦ h ]
+few-ear (tick t) g h = h
+few-ear (named j a) g h = h
 
-gather-ten : (g : List ℕ) (u b t : ℕ) → Few g → length (gather g u b t) ≤ 10
+few : (cs : Calls) (k : ℕ) → Few (entry cs k .ear .bytes)
+few = ear-all (λ cs l. Few l) (λ cs. few-none) (λ cs c g h. few-ear c g h)
+
+gather-ten : (g : Ear) (b t : ℕ) → Few (g .bytes) → length (gather g b t) ≤ 10
 unfolding gather Few
-gather-ten g u b t h =
-    either (λ l. length l ≤ 10) (leb (since t u) 10) (g ++ (b ∷ [])) (b ∷ []) (omega (arith, length-append g (b ∷ []))) (omega arith)
+gather-ten g b t h =
+    either (λ l. length l ≤ 10) (leb (since t (g .last)) 10) (g .bytes ++ (b ∷ [])) (b ∷ []) (omega (arith, length-append (g .bytes) (b ∷ []))) (omega arith)
 
 -- two ends of one list that are equally long are the same
 same-end : (l m s : List ℕ) → Ends l s → Ends m s → length l ≡ length m → l ≡ m
@@ -134,7 +135,7 @@ same-end l m s e f n =
 
 -- ---- of two heads with different numbers in force, one is not spoken to by a byte
 abbrev gatheredWith : Calls → ℕ → ℕ → ℕ → List ℕ
-gatheredWith cs b t k = gather (gathered cs k) (heardAt cs) b t
+gatheredWith cs b t k = gather (entry cs k .ear) b t
 
 -- these bytes are no telegram yet, or one whose node byte is not the number
 Quiet : List ℕ → ℕ → Type 0
@@ -143,11 +144,11 @@ Quiet l f = (length l < 10) ⊎ ((10 ≤ length l) × (eqb (fieldsOf l .node) f 
 same-telegram : (cs : Calls) (b t i j : ℕ) → 10 ≤ length (gatheredWith cs b t i) → 10 ≤ length (gatheredWith cs b t j)
     → gatheredWith cs b t i ≡ gatheredWith cs b t j
 same-telegram cs b t i j p q =
-    let li = gather-ten (gathered cs i) (heardAt cs) b t (few cs i) in
-    let lj = gather-ten (gathered cs j) (heardAt cs) b t (few cs j) in
+    let li = gather-ten (entry cs i .ear) b t (few cs i) in
+    let lj = gather-ten (entry cs j .ear) b t (few cs j) in
     same-end _ _ (stream cs ++ (b ∷ []))
-    (ends-gather (gathered cs i) (stream cs) (heardAt cs) b t (ends cs i))
-    (ends-gather (gathered cs j) (stream cs) (heardAt cs) b t (ends cs j))
+    (ends-gather (entry cs i .ear) (stream cs) b t (ends cs i))
+    (ends-gather (entry cs j .ear) (stream cs) b t (ends cs j))
     (omega arith)
 
 one-quiet : (cs : Calls) (b t i j : ℕ) → inForce cs i ≢ inForce cs j
@@ -210,38 +211,38 @@ module _ (h : Head) (ten : List ℕ) (t : ℕ) (other : eqb (fieldsOf ten .node)
       never : {f : Fault} → Obeyed ≡ Refused f → ⊥
       never q = let z : _≡_ {A = ℕ} 0 1 = cc in omega arith
 
-  -- and but for a broadcast stores nothing
-  told-still : fieldsOf ten .command ≢ 2 → tellOf h ten t .head .stored ≡ h .stored
-  unfolding tellOf toldOf judgedOf deedOf storedBy
-  told-still ne = ⊎-elim (λ e. rw e) (λ e. absurd (ne (cast-two _ (e .1)))) passed
+  -- and but for a sound broadcast stores nothing
+  told-still : (soundOf ten ≡ true → fieldsOf ten .command ≢ 2) → tellOf h ten t .head .stored ≡ h .stored
+  unfolding tellOf toldOf judgedOf deedOf storedBy restartsOf
+  told-still ne = ⊎-elim (λ e. rw e) (λ e. absurd (ne (obeyed-sound _ (fieldsOf ten) (standingOf h) (e .0)) (cast-two _ (e .1)))) passed
 
 -- ---- a head that is not spoken to by a byte
-module _ (h : Head) (g : List ℕ) (u b t : ℕ) (e : Gathered h g u) where
-  step-mute : Quiet (gather g u b t) (h .stored .number) → stepOf h b t .replied ≡ false
+module _ (h : Head) (g : Ear) (b t : ℕ) (e : Gathered h g) where
+  step-mute : Quiet (gather g b t) (h .stored .number) → stepOf h b t .replied ≡ false
   unfolding Quiet
   step-mute q =
-      ⊎-elim (λ few. ear-short h g u b t e few .no-reply)
-      (λ ten. rw (ear-whole h g u b t e (ten .0)) (told-mute h (gather g u b t) t (ten .1)))
+      ⊎-elim (λ few. ear-short h g b t e few .no-reply)
+      (λ ten. rw (ear-whole h g b t e (ten .0)) (told-mute h (gather g b t) t (ten .1)))
       q
 
-  step-still : Quiet (gather g u b t) (h .stored .number) → (10 ≤ length (gather g u b t) → fieldsOf (gather g u b t) .command ≢ 2)
+  step-still : Quiet (gather g b t) (h .stored .number) → (10 ≤ length (gather g b t) → soundOf (gather g b t) ≡ true → fieldsOf (gather g b t) .command ≢ 2)
       → stepOf h b t .head .stored ≡ h .stored
   unfolding Quiet
   step-still q ne =
-      ⊎-elim (λ few. ear-short h g u b t e few .stored)
-      (λ ten. rw (ear-whole h g u b t e (ten .0)) (told-still h (gather g u b t) t (ten .1) (ne (ten .0))))
+      ⊎-elim (λ few. ear-short h g b t e few .stored)
+      (λ ten. rw (ear-whole h g b t e (ten .0)) (told-still h (gather g b t) t (ten .1) (ne (ten .0))))
       q
 
 -- ---- the line
 module _ (cs : Calls) (b t k : ℕ) (lt : k < count cs) (q : Quiet (gatheredWith cs b t k) (inForce cs k)) where
-  quiet-here : Quiet (gatheredWith cs b t k) (at cs k .stored .number)
+  quiet-here : Quiet (gatheredWith cs b t k) (headIn cs k .stored .number)
   quiet-here = rw (sim cs k lt .force-is) q
 
-  at-mute : stepOf (at cs k) b t .replied ≡ false
-  at-mute = step-mute (at cs k) (gathered cs k) (heardAt cs) b t (sim cs k lt .ear-is) quiet-here
+  at-mute : stepOf (headIn cs k) b t .replied ≡ false
+  at-mute = step-mute (headIn cs k) (entry cs k .ear) b t (sim cs k lt .ear-is) quiet-here
 
-  at-still : (10 ≤ length (gatheredWith cs b t k) → fieldsOf (gatheredWith cs b t k) .command ≢ 2) → stepOf (at cs k) b t .head .stored ≡ at cs k .stored
-  at-still ne = step-still (at cs k) (gathered cs k) (heardAt cs) b t (sim cs k lt .ear-is) quiet-here ne
+  at-still : (10 ≤ length (gatheredWith cs b t k) → soundOf (gatheredWith cs b t k) ≡ true → fieldsOf (gatheredWith cs b t k) .command ≢ 2) → stepOf (headIn cs k) b t .head .stored ≡ headIn cs k .stored
+  at-still ne = step-still (headIn cs k) (entry cs k .ear) b t (sim cs k lt .ear-is) quiet-here ne
 
 module _ (d : Head) (b t : ℕ) where
   no-replies : (n : ℕ) (hs : List Head) → ((j : ℕ) → j < n → stepOf (getD hs j d) b t .replied ≡ false) → repliesOf n hs b t ≡ []
@@ -265,42 +266,55 @@ module _ (d : Head) (b t : ℕ) where
       go false e ih = ih
       go true e ih = rw (no-replies n hs (rest-mute e)) (omega arith)
 
-pub one-reply : (cs : Calls) (b t : ℕ) → Differ cs → length (repliesTo cs b t) ≤ 1
-one-reply cs b t d =
+replies-few : (cs : Calls) (b t : ℕ) → Differ cs → length (repliesAt (run cs) b t) ≤ 1
+replies-few cs b t d =
     replies-one factoryOf b t (run cs .count) (run cs .heads)
     (λ i j il jl ne. pick i j (rw (fits cs .counts) at il) (rw (fits cs .counts) at jl) ne)
   where
     pick : (i j : ℕ) → i < count cs → j < count cs → i ≢ j
-        → (stepOf (at cs i) b t .replied ≡ false) ⊎ (stepOf (at cs j) b t .replied ≡ false)
+        → (stepOf (headIn cs i) b t .replied ≡ false) ⊎ (stepOf (headIn cs j) b t .replied ≡ false)
     pick i j il jl ne =
         ⊎-elim (λ q. inl (at-mute cs b t i il q)) (λ q. inr (at-mute cs b t j jl q)) (one-quiet cs b t i j (d .differ i j il jl ne))
+
+-- what the byte call of a line that fits returns, by the space
+abbrev heardIf : Bool → ℕ → Heard
+heardIf x n = cond x (heard.Refused Space) (heard.Replies n)
+
+byte-heard : (l : Line) (b t s : ℕ) (x : Bool) → fitsOf l ≡ true → ltb s 10 ≡ x → byteOf l b t s .heard ≡ heardIf x (length (repliesAt l b t))
+unfolding byteOf
+byte-heard l b t s true f e = rw (f, e)
+byte-heard l b t s false f e = rw (f, e)
+
+pub one-reply : (cs : Calls) (b t s n : ℕ) → Differ cs → byteOf (run cs) b t s .heard ≡ heard.Replies n → n ≤ 1
+one-reply cs b t s n d e = go (ltb s 10) (sym (byte-heard (run cs) b t s (ltb s 10) (fits cs .fits) refl) ∙ e)
+  where
+    go : (x : Bool) → heardIf x (length (repliesAt (run cs) b t)) ≡ heard.Replies n → n ≤ 1
+    go true q = let z : _≡_ {A = ℕ} 0 1 = cc in absurd (omega arith)
+    go false q = let z : length (repliesAt (run cs) b t) ≡ n = cc in omega (arith, replies-few cs b t d)
 
 byte-refused : (l : Line) (b t s : ℕ) → fitsOf l ≡ true → s < 10 → byteOf l b t s .line ≡ l
 unfolding byteOf
 byte-refused l b t s f p = rw (f, lt-ltb s 10 p)
 
 module _ (cs : Calls) (b t s k : ℕ) where
-  ended : 10 ≤ s → 10 ≤ length (gatheredWith cs b t k) → event cs (byte b t s) k ≡ heard (gatheredWith cs b t k)
-  unfolding eventBy whole
-  ended p q = rw (le-leb 10 s p, le-ltb (length (gatheredWith cs b t k)) 10 q)
-
   -- every head has heard the byte
-  stepped : 10 ≤ s → k < count cs → at (cs ▸ byte b t s) k ≡ stepOf (at cs k) b t .head
-  unfolding run after
+  stepped : 10 ≤ s → k < count cs → headIn (cs ▸ byte b t s) k ≡ stepOf (headIn cs k) b t .head
+  unfolding runs after
   stepped p lt = byte-alone (run cs) (fits cs .fits) (fits cs .places) k (rw (fits cs .counts) lt) b t s p
 
   -- with less space it is refused
-  refused : s < 10 → at (cs ▸ byte b t s) k ≡ at cs k
-  unfolding run after
+  refused : s < 10 → headIn (cs ▸ byte b t s) k ≡ headIn cs k
+  unfolding runs after
   refused p = rw (byte-refused (run cs) b t s (fits cs .fits) p)
 
-  unchanged : k < count cs → NoBroadcast cs b t s → Quiet (gatheredWith cs b t k) (inForce cs k) → Unchanged cs b t s k
+  unchanged : k < count cs → NoBroadcast cs b t s → Quiet (gatheredWith cs b t k) (inForce cs k) → Unchanged built cs b t s k
   unchanged lt nb q =
       ⊎-elim (λ p. rw (refused p))
-      (λ p. rw (stepped p lt, at-still cs b t k lt q (λ n. nb .none-ends k (gatheredWith cs b t k) lt (ended p n))))
+      (λ p. ap (λ (h : Head). h .stored .values) (stepped p lt)
+      ∙ ap (λ (x : Stored). x .values) (at-still cs b t k lt q (λ n. nb .none-ends k lt p (let m = gather-ten (entry cs k .ear) b t (few cs k) in omega arith))))
       (less-or-not s 10)
 
 pub one-change : (cs : Calls) (b t s : ℕ) → Differ cs → NoBroadcast cs b t s
-    → (i j : ℕ) → i < count cs → j < count cs → i ≢ j → Unchanged cs b t s i ⊎ Unchanged cs b t s j
+    → (i j : ℕ) → i < count cs → j < count cs → i ≢ j → Unchanged built cs b t s i ⊎ Unchanged built cs b t s j
 one-change cs b t s d nb i j il jl ne =
     ⊎-elim (λ q. inl (unchanged cs b t s i il nb q)) (λ q. inr (unchanged cs b t s j jl nb q)) (one-quiet cs b t i j (d .differ i j il jl ne))

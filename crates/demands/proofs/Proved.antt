@@ -10,50 +10,44 @@ use native.Mathlib.Omega.{arith}
 use borrow.Author.Tests.{eqb-false}
 use lib.Dec.{eqb}
 use Rattle.line.proofs.Laws.{fits-small}
-use Rattle.demands.specs.Calls.{Call, newHead, byte, tick, measure, keys, power, Calls, start, _▸_, Bytes}
-use Rattle.demands.specs.Past.{mayAdd, grown, count, cuts, idle, made, cut, eventBy, touched, look, lockedBy, value, inForce, isOpen}
-use Rattle.demands.specs.Run.{run, at}
+use Rattle.demands.specs.Calls.{Call, newHead, byte, tick, named, power, Calls, start, _▸_, Bytes}
+use Rattle.demands.specs.Past.{nothing, making, mayAdd, grown, cutting, asked, names, change, look, next, account, count, value, inForce}
+use Rattle.demands.specs.Run.{built, run, headIn}
 use Rattle.demands.specs.Demand3.{touch, Last, here, earlier, ReadsBack, Demand3}
 use Rattle.demands.proofs.Sim.{fits, sim}
 use Rattle.demands.proofs.One.{one-reply, one-change}
 use Rattle.demands.proofs.Back.{now-back}
 
 -- ---- a power cut touches no stored value
-value-power : (cs : Calls) (j k r : ℕ) → value (cs ▸ power j) k r ≡ value cs k r
-unfolding value eventBy touched look
-value-power cs j k r = go (cuts (count cs) j k)
-  where
-    go : (b : Bool) → look (touched (cond b cut idle) (inForce cs k) (lockedBy (value cs k 14) (isOpen cs k)) r) (value cs k r) ≡ value cs k r
-    go true = refl
-    go false = refl
+value-power : (cs : Calls) (j k r : ℕ) → value (cs ▸ named j power) k r ≡ value cs k r
+unfolding account next change asked look
+value-power cs j k r = elim (names (count cs) j k) as (λ x. look (cond x cutting nothing .gives r) (value cs k r) ≡ value cs k r) [ true ↦ refl | false ↦ refl ]
 
-count-power : (cs : Calls) (j : ℕ) → count (cs ▸ power j) ≡ count cs
-unfolding count grown
+count-power : (cs : Calls) (j : ℕ) → count (cs ▸ named j power) ≡ count cs
+unfolding account grown
 count-power cs j = refl
 
 cut-back : (cs : Calls) (k r : ℕ) → Bytes cs → k < count cs → r < 39
-    → ReadsBack (at (cs ▸ power k) k) (inForce (cs ▸ power k) k) r (value cs k r)
+    → ReadsBack built (headIn (cs ▸ named k power) k) (inForce (cs ▸ named k power) k) r (value cs k r)
 cut-back cs k r bytes kl rl =
-    rw (← value-power cs k k r) (now-back (cs ▸ power k) k r (bytes, tt) (rw (count-power cs k) kl) rl)
+    rw (← value-power cs k k r) (now-back (cs ▸ named k power) k r (bytes, tt) (rw (count-power cs k) kl) rl)
 
 -- ---- a call that does not touch a head's parameter did not make the head
 before : (cs : Calls) (c : Call) (k r : ℕ) → k < count (cs ▸ c) → touch cs c k r ≡ none → k < count cs
-unfolding count grown eventBy touched
+unfolding account grown change
 before cs (newHead node) k r lt e = go (mayAdd (count cs) node) (eqb k (count cs)) refl lt e
   where
     go : (b d : Bool) → eqb k (count cs) ≡ d → k < cond b (suc (count cs)) (count cs)
-        → touched (cond (b && d) (made node) idle) (inForce cs k) (lockedBy (value cs k 14) (isOpen cs k)) r ≡ none → k < count cs
+        → cond (b && d) (making node) nothing .gives r ≡ none → k < count cs
     go false d q lt e = lt
     go true false q lt e = let ne = eqb-false k (count cs) q in omega arith
     go true true q lt e = let z : _≡_ {A = ℕ} 0 1 = cc in absurd (omega arith)
 before cs (byte b t s) k r lt e = lt
 before cs (tick t) k r lt e = lt
-before cs (measure j m) k r lt e = lt
-before cs (keys j s) k r lt e = lt
-before cs (power j) k r lt e = lt
+before cs (named j a) k r lt e = lt
 
 last : (cs : Calls) (k r : ℕ) → k < count cs → Last k r (value cs k r) cs
-unfolding value count look
+unfolding account next look
 last start k r lt = absurd (not-suc-le-zero lt)
 last (cs ▸ c) k r lt = go (touch cs c k r) refl (λ old. last cs k r old)
   where
@@ -61,7 +55,7 @@ last (cs ▸ c) k r lt = go (touch cs c k r) refl (λ old. last cs k r old)
     go (some v) e ih = here e
     go none e ih = earlier e (ih (before cs c k r lt e))
 
-pub proved : Demand3
+pub proved : Demand3 built
 proved =
     record {
       eight = λ cs. (fits cs .counts, rw (fits cs .counts) at (fits-small (run cs) (fits cs .fits)), fits cs .fits);

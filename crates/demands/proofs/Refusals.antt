@@ -2,32 +2,41 @@
 -- Assumes nothing.
 use Prim.Native.Nat.{ℕ, _<_, _≤_}
 use native.Mathlib.Omega.{arith}
-use mathlib.Core.Path.{_≡_, refl, sym, _∙_}
-use mathlib.Core.Bool.{Bool, true, false, cond, not, _&&_, true≢false}
-use mathlib.Core.List.{List, [], _∷_}
-use mathlib.Core.Option.{Option, none, some}
+use mathlib.Core.Path.{_≡_, refl, sym, _∙_, ap}
+use mathlib.Core.Bool.{Bool, true, false, cond, not, _&&_}
+use mathlib.Core.List.{List, [], _∷_, map}
+use mathlib.Core.Option.{none, some}
 use borrow.Author.Tests.{ltb-true, ltb-false, leb-true, leb-false, lt-ltb, le-ltb, le-leb, lt-leb}
 use lib.Dec.{leb, ltb}
-use lib.IntN.{ℤ}
 use lib.ListN.{length}
+use Rattle.rows.specs.Table.{rows}
 use Rattle.rows.proofs.Laws.{node-limits, node-fits}
 use Rattle.state.specs.declared.parts.Head.{Head}
 use Rattle.state.specs.Wellformed.{inReachOf, wellformedOf}
+use Rattle.effects.specs.Stored.{restartedStored}
+use Rattle.effects.specs.Restart.{deliveredOf, restartedOf, freshOf}
 use Rattle.head.specs.declared.refusal.Refusal.{Refusal}
+use Rattle.head.specs.declared.refusal.Refusal.the-variants.{Malformed}
 use Rattle.head.specs.declared.calls.Answer.{Answer}
 use Rattle.head.specs.declared.calls.Answer.the-variants as answer
 use Rattle.head.specs.declared.calls.Heard.{Heard}
 use Rattle.head.specs.declared.calls.Heard.the-variants as heard
+use Rattle.head.specs.Refusals.{refusalOf}
 use Rattle.head.specs.Calls as head
-use Rattle.head.specs.Calls.{nodeFits, madeOf}
+use Rattle.head.specs.Calls.{Tests, nodeFits, factoryOf, madeOf}
 use Rattle.head.specs.Outcome as alone
+use Rattle.head.proofs.Tests.{failed}
+use Rattle.head.proofs.Asked.{called-same, called-refusal}
 use Rattle.head.proofs.Refused.{refused-nothing}
 use Rattle.line.specs.declared.calls.Line.{Line}
-use Rattle.line.proofs.Theorems.{grow-refused, tick-refused, measure-refused, keys-refused, power-refused, byte-refused}
-use Rattle.line.specs.Calls.{fitsOf, growOf, byteOf, byteSpaceOf, tickOf, measureOf, keysOf, powerOf}
-use Rattle.demands.specs.Calls.{Call, newHead, byte, tick, measure, keys, power}
-use Rattle.demands.specs.Run.{after}
-use Rattle.demands.specs.Demand1.{first, rowsFor, rowsAlone, row, numbered, ofAnswer, ofHeard, refusedAs, Demand1}
+use Rattle.line.specs.declared.calls.Called.{Called}
+use Rattle.line.specs.Calls.{fitsOf, headAt, growOf, byteOf, byteSpaceOf, tickOf, namedOf}
+use Rattle.line.proofs.Theorems.{grow-refused, tick-refused, named-refused, byte-refused, well-at}
+use Rattle.demands.specs.Calls.{Ask, Call, newHead, byte, tick, named}
+use Rattle.demands.specs.Run.{product, aloneOf, after}
+use Rattle.demands.specs.Demand1.{Row, row, first, ownRows, nodeRow, rowsFor, rowsAlone, numbered, ofAnswer, ofHeard, refusedAs, refusedAlone, headAfter, spaceAfter, Numbered, Demand1}
+use Rattle.demands.proofs.Named.{ask-is}
+use Rattle.demands.proofs.Twenty.{twenty}
 
 -- ---- a test and its opposite, and the test of a node number
 flip : (a b : ℕ) → leb b a ≡ not (ltb a b)
@@ -58,107 +67,95 @@ node-test node = go (leb 1 node) (leb node 127) refl refl
     go true false p q = no (nodeFits node) refl (λ a b. let g = leb-false node 127 q in omega arith)
     go false y p q = no (nodeFits node) refl (λ a b. let g = leb-false 1 node p in omega arith)
 
--- ---- the number of each refusal, by the tests
+-- ---- tests in their order are rows of the table, in theirs
+abbrev asRow : Bool × Refusal → Row
+asRow t = row (refusalOf (t .1)) (not (t .0))
+
+failed-first : (ts : Tests) → numbered (failed ts) ≡ first (map asRow ts)
+failed-first [] = refl
+failed-first ((true, why) ∷ ts) = failed-first ts
+failed-first ((false, why) ∷ ts) = refl
+
+own-rows : (a : alone.Ask) → map asRow (alone.own a) ≡ ownRows a
+unfolding alone.own inReachOf
+own-rows (alone.tick t) = refl
+own-rows (alone.measure m) = refl
+own-rows (alone.keys s) = rw (over s 7)
+own-rows alone.power = refl
+
+-- ---- the number of each refusal
+module _ (h : Head) where
+  head-byte : (b t : ℕ) (space : List ℕ) (w r : Bool) → wellformedOf h ≡ w → ltb (length space) 10 ≡ r
+      → refusedAlone (product .onHead) (alone.byte b t space) h ≡ first (rowsAlone (alone.byte b t space) h)
+  unfolding head.byteOf
+  head-byte b t space false r p q = simp p
+  head-byte b t space true false p q = simp (p, q)
+  head-byte b t space true true p q = simp (p, q)
+
+  head-number : (c : alone.Call) → refusedAlone (product .onHead) c h ≡ first (rowsAlone c h)
+  head-number (alone.byte b t space) = head-byte b t space (wellformedOf h) (ltb (length space) 10) refl refl
+  head-number (alone.asked a) =
+      ap numbered (called-refusal a h) ∙ failed-first ((wellformedOf h, Malformed) ∷ alone.own a) ∙ rw (own-rows a)
+
 module _ (l : Line) where
   grow-number : (node : ℕ) (f c n : Bool) → fitsOf l ≡ f → ltb (l .count) 8 ≡ c → (leb 1 node && leb node 127) ≡ n
-      → refusedAs (newHead node) l ≡ first (rowsFor (newHead node) l)
+      → refusedAs (product .onLine) (newHead node) l ≡ first (rowsFor (newHead node) l)
   unfolding growOf
   grow-number node false c n p q r = simp p
   grow-number node true false n p q r = simp (p, flip (l .count) 8, q)
   grow-number node true true false p q r = simp (p, flip (l .count) 8, q, node-test node, r)
   grow-number node true true true p q r = simp (p, flip (l .count) 8, q, node-test node, r)
 
-  byte-number : (b t s : ℕ) (f r : Bool) → fitsOf l ≡ f → ltb s 10 ≡ r → refusedAs (byte b t s) l ≡ first (rowsFor (byte b t s) l)
+  byte-number : (b t s : ℕ) (f r : Bool) → fitsOf l ≡ f → ltb s 10 ≡ r
+      → refusedAs (product .onLine) (byte b t s) l ≡ first (rowsFor (byte b t s) l)
   unfolding byteOf
   byte-number b t s false r p q = simp p
   byte-number b t s true false p q = simp (p, q)
   byte-number b t s true true p q = simp (p, q)
 
-  tick-number : (t : ℕ) (f : Bool) → fitsOf l ≡ f → refusedAs (tick t) l ≡ first (rowsFor (tick t) l)
+  tick-number : (t : ℕ) (f : Bool) → fitsOf l ≡ f → refusedAs (product .onLine) (tick t) l ≡ first (rowsFor (tick t) l)
   unfolding tickOf
   tick-number t false p = simp p
   tick-number t true p = simp p
 
-  measure-number : (j : ℕ) (m : ℤ) (f i r : Bool) → fitsOf l ≡ f → ltb j (l .count) ≡ i → inReachOf m ≡ r
-      → refusedAs (measure j m) l ≡ first (rowsFor (measure j m) l)
-  unfolding measureOf inReachOf
-  measure-number j m false i r p q e = simp p
-  measure-number j m true false r p q e = simp (p, flip j (l .count), q)
-  measure-number j m true true false p q e = simp (p, flip j (l .count), q, e)
-  measure-number j m true true true p q e = simp (p, flip j (l .count), q, e)
+  -- a call that names a head: 20, 3, then what the head alone says, which is no 20 where the line fits
+  named-number : (j : ℕ) (a : Ask) (f i : Bool) → fitsOf l ≡ f → ltb j (l .count) ≡ i
+      → ofAnswer (namedOf l j (alone.called (aloneOf a) (headAt l j)) .answer) ≡ first (rowsFor (named j a) l)
+  unfolding namedOf
+  named-number j a false i p q = simp p
+  named-number j a true false p q = simp (p, flip j (l .count), q)
+  named-number j a true true p q =
+      let w = well-at l p j (ltb-true _ _ q) in simp (p, flip j (l .count), q) (simp w at (head-number (headAt l j) (alone.asked (aloneOf a))))
 
-  keys-number : (j s : ℕ) (f i r : Bool) → fitsOf l ≡ f → ltb j (l .count) ≡ i → leb s 7 ≡ r
-      → refusedAs (keys j s) l ≡ first (rowsFor (keys j s) l)
-  unfolding keysOf
-  keys-number j s false i r p q e = simp p
-  keys-number j s true false r p q e = simp (p, flip j (l .count), q)
-  keys-number j s true true false p q e = simp (p, flip j (l .count), q, over s 7, e)
-  keys-number j s true true true p q e = simp (p, flip j (l .count), q, over s 7, e)
-
-  power-number : (j : ℕ) (f i : Bool) → fitsOf l ≡ f → ltb j (l .count) ≡ i → refusedAs (power j) l ≡ first (rowsFor (power j) l)
-  unfolding powerOf
-  power-number j false i p q = simp p
-  power-number j true false p q = simp (p, flip j (l .count), q)
-  power-number j true true p q = simp (p, flip j (l .count), q)
-
-  line-number : (c : Call) → refusedAs c l ≡ first (rowsFor c l)
+  line-number : (c : Call) → refusedAs (product .onLine) c l ≡ first (rowsFor c l)
   line-number (newHead node) = grow-number node (fitsOf l) (ltb (l .count) 8) (leb 1 node && leb node 127) refl refl refl
   line-number (byte b t s) = byte-number b t s (fitsOf l) (ltb s 10) refl refl
   line-number (tick t) = tick-number t (fitsOf l) refl
-  line-number (measure j m) = measure-number j m (fitsOf l) (ltb j (l .count)) (inReachOf m) refl refl refl
-  line-number (keys j s) = keys-number j s (fitsOf l) (ltb j (l .count)) (leb s 7) refl refl refl
-  line-number (power j) = power-number j (fitsOf l) (ltb j (l .count)) refl refl
-
-module _ (h : Head) where
-  head-byte : (b t : ℕ) (space : List ℕ) (w r : Bool) → wellformedOf h ≡ w → ltb (length space) 10 ≡ r
-      → numbered (alone.refusalBy (alone.byte b t space) h) ≡ first (rowsAlone (alone.byte b t space) h)
-  unfolding head.byteOf
-  head-byte b t space false r p q = simp p
-  head-byte b t space true false p q = simp (p, q)
-  head-byte b t space true true p q = simp (p, q)
-
-  head-measure : (m : ℤ) (w r : Bool) → wellformedOf h ≡ w → inReachOf m ≡ r
-      → numbered (alone.refusalBy (alone.measure m) h) ≡ first (rowsAlone (alone.measure m) h)
-  unfolding head.measureOf inReachOf
-  head-measure m false r p q = simp p
-  head-measure m true false p q = simp (p, q)
-  head-measure m true true p q = simp (p, q)
-
-  head-keys : (s : ℕ) (w r : Bool) → wellformedOf h ≡ w → leb s 7 ≡ r
-      → numbered (alone.refusalBy (alone.keys s) h) ≡ first (rowsAlone (alone.keys s) h)
-  unfolding head.keysOf
-  head-keys s false r p q = simp p
-  head-keys s true false p q = simp (p, over s 7, q)
-  head-keys s true true p q = simp (p, over s 7, q)
-
-  head-tick : (t : ℕ) (w : Bool) → wellformedOf h ≡ w → numbered (alone.refusalBy (alone.tick t) h) ≡ first (rowsAlone (alone.tick t) h)
-  unfolding head.tickOf
-  head-tick t false p = simp p
-  head-tick t true p = simp p
-
-  head-power : (w : Bool) → wellformedOf h ≡ w → numbered (alone.refusalBy alone.power h) ≡ first (rowsAlone alone.power h)
-  unfolding head.powerOf
-  head-power false p = simp p
-  head-power true p = simp p
-
-  head-number : (c : alone.Call) → numbered (alone.refusalBy c h) ≡ first (rowsAlone c h)
-  head-number (alone.byte b t space) = head-byte b t space (wellformedOf h) (ltb (length space) 10) refl refl
-  head-number (alone.tick t) = head-tick t (wellformedOf h) refl
-  head-number (alone.measure m) = head-measure m (wellformedOf h) (inReachOf m) refl refl
-  head-number (alone.keys s) = head-keys s (wellformedOf h) (leb s 7) refl refl
-  head-number alone.power = head-power (wellformedOf h) refl
+  line-number (named j a) = rw (ask-is a l j) (named-number j a (fitsOf l) (ltb j (l .count)) refl refl)
 
 made-number : (node : ℕ) (t : Bool) → (leb 1 node && leb node 127) ≡ t
-    → ofAnswer (madeOf node .answer) ≡ first (row 1 (not (leb 1 node && leb node 127)) ∷ [])
+    → ofAnswer (madeOf node .answer) ≡ first (nodeRow node ∷ [])
 unfolding madeOf
 made-number node true e = simp (node-test node, e)
 made-number node false e = simp (node-test node, e)
 
--- ---- a refused call changes nothing
-some-of : (o : Option Refusal) {n : ℕ} → numbered o ≡ some n → (why : Refusal) × (o ≡ some why)
-some-of none e = absurd (let z : _≡_ {A = ℕ} 0 1 = cc in omega arith)
-some-of (some why) e = (why, refl)
+-- ---- the head that making hands back
+fresh-numbered : (node : ℕ) → Numbered (freshOf node) node
+unfolding freshOf restartedOf restartedStored deliveredOf rows
+fresh-numbered node = (refl, refl)
 
+made-head : (node : ℕ) (t : Bool) → nodeFits node ≡ t → ofAnswer (madeOf node .answer) ≡ none → Numbered (madeOf node .head) node
+unfolding madeOf
+made-head node true e d = rw e (fresh-numbered node)
+made-head node false e d = absurd (let k : some 1 ≡ none = rw e at d in let z : _≡_ {A = ℕ} 0 1 = cc in omega arith)
+
+made-factory : (node n : ℕ) (t : Bool) → nodeFits node ≡ t → ofAnswer (madeOf node .answer) ≡ some n
+    → (madeOf node .head ≡ factoryOf) × (factoryOf ≡ madeOf 31 .head) × Numbered factoryOf 31
+unfolding madeOf factoryOf
+made-factory node n true e d = absurd (let k : none ≡ some n = rw e at d in let z : _≡_ {A = ℕ} 0 1 = cc in omega arith)
+made-factory node n false e d = (rw e, rw (node-test 31), fresh-numbered 31)
+
+-- ---- a refused call changes nothing
 answered : (a : Answer) {n : ℕ} → ofAnswer a ≡ some n → (why : Refusal) × (a ≡ answer.Refused why)
 answered answer.Done e = absurd (let z : _≡_ {A = ℕ} 0 1 = cc in omega arith)
 answered (answer.Refused why) e = (why, refl)
@@ -167,35 +164,43 @@ heard-as : (x : Heard) {n : ℕ} → ofHeard x ≡ some n → (why : Refusal) ×
 heard-as (heard.Replies k) e = absurd (let z : _≡_ {A = ℕ} 0 1 = cc in omega arith)
 heard-as (heard.Refused why) e = (why, refl)
 
-byte-same : (l : Line) (b t s : ℕ) (f r : Bool) (n : ℕ) → fitsOf l ≡ f → ltb s 10 ≡ r → refusedAs (byte b t s) l ≡ some n → byteOf l b t s .line ≡ l
+byte-same : (l : Line) (b t s : ℕ) (f r : Bool) (n : ℕ) → fitsOf l ≡ f → ltb s 10 ≡ r
+    → refusedAs (product .onLine) (byte b t s) l ≡ some n → byteOf l b t s .line ≡ l
 unfolding byteOf
 byte-same l b t s false r n p q e = simp p
 byte-same l b t s true true n p q e = simp (p, q)
 byte-same l b t s true false n p q e = let k : none ≡ some n = simp (p, q) at e in absurd (let z : _≡_ {A = ℕ} 0 1 = cc in omega arith)
 
-line-same : (c : Call) (l : Line) (n : ℕ) → refusedAs c l ≡ some n → after c l ≡ l
+line-same : (c : Call) (l : Line) (n : ℕ) → refusedAs (product .onLine) c l ≡ some n → after (product .onLine) c l ≡ l
 unfolding after
 line-same (newHead node) l n e = let w = answered (growOf l node .answer) e in grow-refused l node (w .0) (w .1)
 line-same (byte b t s) l n e = byte-same l b t s (fitsOf l) (ltb s 10) n refl refl e
 line-same (tick t) l n e = let w = answered (tickOf l t .answer) e in tick-refused l t (w .0) (w .1)
-line-same (measure j m) l n e = let w = answered (measureOf l j m .answer) e in measure-refused l j m (w .0) (w .1)
-line-same (keys j s) l n e = let w = answered (keysOf l j s .answer) e in keys-refused l j s (w .0) (w .1)
-line-same (power j) l n e = let w = answered (powerOf l j .answer) e in power-refused l j (w .0) (w .1)
+line-same (named j a) l n e =
+    let c = alone.called (aloneOf a) (headAt l j) in
+    let w = answered (namedOf l j c .answer) (rw (ask-is a l j) at e) in
+    ap (λ (x : Called). x .line) (ask-is a l j) ∙ (named-refused l j c (called-same (aloneOf a) (headAt l j)) (w .0) (w .1))
 
-space-same : (l : Line) (b t : ℕ) (space : List ℕ) (n : ℕ) → refusedAs (byte b t (length space)) l ≡ some n → byteSpaceOf l b t space ≡ space
+space-same : (l : Line) (b t : ℕ) (space : List ℕ) (n : ℕ) → refusedAs (product .onLine) (byte b t (length space)) l ≡ some n → byteSpaceOf l b t space ≡ space
 space-same l b t space n e =
     let w = heard-as (byteOf l b t (length space) .heard) e in byte-refused l b t space (w .0) (w .1) .1
 
-head-same : (c : alone.Call) (h : Head) (n : ℕ) → numbered (alone.refusalBy c h) ≡ some n
-    → (alone.headAfter c h ≡ h) × (alone.spaceAfter c h ≡ alone.lentBy c)
-head-same c h n e = let w = some-of (alone.refusalBy c h) e in let u = refused-nothing c h (w .1) in (u .head, u .space)
+head-same : (c : alone.Call) (h : Head) (n : ℕ) → refusedAlone (product .onHead) c h ≡ some n
+    → (headAfter (product .onHead) c h ≡ h) × (spaceAfter (product .onHead) c h ≡ alone.lentBy c)
+head-same (alone.byte b t space) h n e =
+    let w = heard-as (head.byteOf h b t (length space) .heard) e in
+    let u = refused-nothing (alone.byte b t space) h (ap alone.ofHeard (w .1)) in (u .head, u .space)
+head-same (alone.asked a) h n e = let w = answered (alone.called a h .answer) e in (called-same a h (w .0) (w .1), refl)
 
-pub demand1 : Demand1
+pub demand1 : Demand1 product
 demand1 =
     record {
       line-number = λ c l. line-number l c;
       head-number = λ c h. head-number h c;
+      twenty = twenty;
       made-number = λ node. made-number node (leb 1 node && leb node 127) refl;
+      made-head = λ node. made-head node (nodeFits node) refl;
+      made-factory = λ node n. made-factory node n (nodeFits node) refl;
       line-same = line-same;
       space-same = space-same;
       head-same = head-same;

@@ -3,14 +3,18 @@
 use Prim.Native.Nat.{ℕ, _<_}
 use lib.IntN.{ℤ}
 
--- grow by a node number; a byte at a time, with so much space lent; a tick; a measurement, a key state, power for a head by its number
+-- what is asked of a head by its number: a measurement, a key state, power
+pub data Ask : Type 0 where
+  measure : ℤ → Ask
+  keys : ℕ → Ask
+  power : Ask
+
+-- grow by a node number; a byte at a time, with so much space lent; a tick; a call that names a head
 pub data Call : Type 0 where
   newHead : ℕ → Call
   byte : ℕ → ℕ → ℕ → Call
   tick : ℕ → Call
-  measure : ℕ → ℤ → Call
-  keys : ℕ → ℕ → Call
-  power : ℕ → Call
+  named : ℕ → Ask → Call
 
 -- calls in the order of time: the last stands last
 infixl 60 _▸_
@@ -23,9 +27,7 @@ abbrev pub IsByte : Call → Type 0
 IsByte (newHead node) = Unit {0}
 IsByte (byte b t s) = b < 256
 IsByte (tick t) = Unit {0}
-IsByte (measure j m) = Unit {0}
-IsByte (keys j s) = Unit {0}
-IsByte (power j) = Unit {0}
+IsByte (named j a) = Unit {0}
 
 abbrev pub Bytes : Calls → Type 0
 Bytes start = Unit {0}

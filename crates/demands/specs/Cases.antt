@@ -5,7 +5,8 @@ use Prim.Native.Nat.{ℕ, zero, suc, _/_, _%_, _^_}
 use mathlib.Core.Path.{_≡_}
 use mathlib.Core.Bool.{false}
 use mathlib.Core.List.{List, [], _∷_, _++_, map}
-use lib.IntN.{ℤ, pos, negsuc}
+use lib.IntN.{ℤ, pos}
+use Rattle.signed.specs.Number.{minus}
 use Rattle.signed.specs.Rounding.{roundedOf}
 use Rattle.signed.specs.Difference.{differentialOf}
 use Rattle.state.specs.declared.parts.Head.{Head}
@@ -89,8 +90,8 @@ cases =
     ∷ says 31 (at 0 5 0x001F200000 ∷ at 11 5 0x000000003F ∷ []) []
     -- 12348 by 10 is 1235; -12345 by 10 is -1235
     ∷ rounds (pos 12348) 1 (pos 1235)
-    ∷ rounds (negsuc 12344) 1 (negsuc 1234)
+    ∷ rounds (minus 12345) 1 (minus 1235)
     -- S 2147483647, A 0: differential -5242880; and as a head answers it, by FFh and FCh
-    ∷ differs (pos 0) (pos 2147483647) (negsuc 5242879)
+    ∷ differs (pos 0) (pos 2147483647) (minus 5242880)
     ∷ says 31 (whole 0x011FFF00007FFFFFFF61 ∷ whole 0x001FFC000000000000E3 ∷ []) (0x011FFF00007FFFFFFF61 ∷ 0x001FFC0000FFB00000AC ∷ [])
     ∷ []

@@ -8,23 +8,24 @@ use mathlib.Core.Bool.{Bool, cond, not, _&&_}
 use mathlib.Core.List.{List, [], _∷_}
 use mathlib.Core.Option.{Option, none, some}
 use lib.Dec.{leb, ltb}
-use lib.IntN.{ℤ, pos, negsuc}
+use lib.IntN.{pos}
 use lib.ListN.{length}
 use lib.Signed.{leZ}
+use Rattle.signed.specs.Number.{minus}
 use Rattle.state.specs.declared.parts.Head.{Head}
+use Rattle.state.specs.Settings.{valueAt, nodePlace}
 use Rattle.state.specs.Wellformed.{wellformedOf}
 use Rattle.head.specs.declared.refusal.Refusal.{Refusal}
 use Rattle.head.specs.declared.calls.Answer.{Answer}
-use Rattle.head.specs.declared.calls.Answer.the-variants as answer
 use Rattle.head.specs.declared.calls.Heard.{Heard}
-use Rattle.head.specs.declared.calls.Heard.the-variants as heard
 use Rattle.head.specs.Refusals.{refusalOf}
-use Rattle.head.specs.Calls.{madeOf}
+use Rattle.head.specs.Calls.{factoryOf}
 use Rattle.head.specs.Outcome as alone
 use Rattle.line.specs.declared.calls.Line.{Line}
-use Rattle.line.specs.Calls.{fitsOf, growOf, byteOf, byteSpaceOf, tickOf, measureOf, keysOf, powerOf}
-use Rattle.demands.specs.Calls.{Call, newHead, byte, tick, measure, keys, power}
-use Rattle.demands.specs.Run.{after}
+use Rattle.line.specs.Calls.{fitsOf}
+use Rattle.demands.specs.Calls.{Call, newHead, byte, tick, named}
+use Rattle.demands.specs.Twenty.{Twenty}
+use Rattle.demands.specs.Run.{OnHead, OnLine, System, aloneOf, after}
 
 -- ---- the table of document 01, "The line, and calls refused": a number, and whether its clause holds
 pub record Row : Type 0 where
@@ -39,23 +40,30 @@ abbrev pub first : List Row → Option ℕ
 first [] = none
 first (r ∷ rs) = cond (r .holds) (some (r .number)) (first rs)
 
+-- what a measurement, a key state, a tick and power are refused for on their own, on a head alone and on a line
+abbrev pub ownRows : alone.Ask → List Row
+ownRows (alone.tick t) = []
+ownRows (alone.measure m) = row 4 (not (leZ (minus 2500000) m && leZ m (pos 2500000))) ∷ []
+ownRows (alone.keys s) = row 5 (ltb 7 s) ∷ []
+ownRows alone.power = []
+
+abbrev pub nodeRow : ℕ → Row
+nodeRow node = row 1 (not (leb 1 node && leb node 127))
+
+abbrev pub spaceRow : ℕ → Row
+spaceRow s = row 6 (ltb s 10)
+
 -- 20 goes before all others, 2 before 1, and 3 before 4 and 5
 abbrev pub rowsFor : Call → Line → List Row
-rowsFor (newHead node) l = row 20 (not (fitsOf l)) ∷ row 2 (leb 8 (l .count)) ∷ row 1 (not (leb 1 node && leb node 127)) ∷ []
-rowsFor (byte b t s) l = row 20 (not (fitsOf l)) ∷ row 6 (ltb s 10) ∷ []
-rowsFor (tick t) l = row 20 (not (fitsOf l)) ∷ []
-rowsFor (measure j m) l =
-    row 20 (not (fitsOf l)) ∷ row 3 (leb (l .count) j) ∷ row 4 (not (leZ (negsuc 2499999) m && leZ m (pos 2500000))) ∷ []
-rowsFor (keys j s) l = row 20 (not (fitsOf l)) ∷ row 3 (leb (l .count) j) ∷ row 5 (ltb 7 s) ∷ []
-rowsFor (power j) l = row 20 (not (fitsOf l)) ∷ row 3 (leb (l .count) j) ∷ []
+rowsFor (newHead node) l = row 20 (not (fitsOf l)) ∷ row 2 (leb 8 (l .count)) ∷ nodeRow node ∷ []
+rowsFor (byte b t s) l = row 20 (not (fitsOf l)) ∷ spaceRow s ∷ []
+rowsFor (tick t) l = row 20 (not (fitsOf l)) ∷ ownRows (alone.tick t)
+rowsFor (named j a) l = row 20 (not (fitsOf l)) ∷ row 3 (leb (l .count) j) ∷ ownRows (aloneOf a)
 
 -- the same for a head alone
 abbrev pub rowsAlone : alone.Call → Head → List Row
-rowsAlone (alone.byte b t space) h = row 20 (not (wellformedOf h)) ∷ row 6 (ltb (length space) 10) ∷ []
-rowsAlone (alone.tick t) h = row 20 (not (wellformedOf h)) ∷ []
-rowsAlone (alone.measure m) h = row 20 (not (wellformedOf h)) ∷ row 4 (not (leZ (negsuc 2499999) m && leZ m (pos 2500000))) ∷ []
-rowsAlone (alone.keys s) h = row 20 (not (wellformedOf h)) ∷ row 5 (ltb 7 s) ∷ []
-rowsAlone alone.power h = row 20 (not (wellformedOf h)) ∷ []
+rowsAlone (alone.byte b t space) h = row 20 (not (wellformedOf h)) ∷ spaceRow (length space) ∷ []
+rowsAlone (alone.asked a) h = row 20 (not (wellformedOf h)) ∷ ownRows a
 
 -- ---- the number that a call returns
 abbrev pub numbered : Option Refusal → Option ℕ
@@ -68,21 +76,43 @@ ofAnswer a = numbered (alone.ofAnswer a)
 abbrev pub ofHeard : Heard → Option ℕ
 ofHeard x = numbered (alone.ofHeard x)
 
-abbrev pub refusedAs : Call → Line → Option ℕ
-refusedAs (newHead node) l = ofAnswer (growOf l node .answer)
-refusedAs (byte b t s) l = ofHeard (byteOf l b t s .heard)
-refusedAs (tick t) l = ofAnswer (tickOf l t .answer)
-refusedAs (measure j m) l = ofAnswer (measureOf l j m .answer)
-refusedAs (keys j s) l = ofAnswer (keysOf l j s .answer)
-refusedAs (power j) l = ofAnswer (powerOf l j .answer)
+abbrev pub refusedAs : OnLine → Call → Line → Option ℕ
+refusedAs m (newHead node) l = ofAnswer (m .grow l node .answer)
+refusedAs m (byte b t s) l = ofHeard (m .byte l b t s .heard)
+refusedAs m (tick t) l = ofAnswer (m .tick l t .answer)
+refusedAs m (named j a) l = ofAnswer (m .ask a l j .answer)
 
-pub record Demand1 : Type 0 where
+abbrev pub refusedAlone : OnHead → alone.Call → Head → Option ℕ
+refusedAlone m (alone.byte b t space) h = ofHeard (m .byte h b t (length space) .heard)
+refusedAlone m (alone.asked a) h = ofAnswer (m .ask a h .answer)
+
+-- the head, and the lent space, after a call on a head alone; what lends no space leaves none
+abbrev pub headAfter : OnHead → alone.Call → Head → Head
+headAfter m (alone.byte b t space) h = m .byte h b t (length space) .head
+headAfter m (alone.asked a) h = m .ask a h .head
+
+abbrev pub spaceAfter : OnHead → alone.Call → Head → List ℕ
+spaceAfter m (alone.byte b t space) h = m .space h b t space
+spaceAfter m (alone.asked a) h = []
+
+-- the number in force and 00h, which stands at place 0
+abbrev pub Numbered : Head → ℕ → Type 0
+Numbered h node = (h .stored .number ≡ node) × (valueAt (h .stored .values) nodePlace ≡ node)
+
+pub record Demand1 (m : System) : Type 0 where
   -- a call on a line, or on a head alone, returns the number of the table, exactly when the table gives it
-  pub line-number : (c : Call) (l : Line) → refusedAs c l ≡ first (rowsFor c l)
-  pub head-number : (c : alone.Call) (h : Head) → numbered (alone.refusalBy c h) ≡ first (rowsAlone c h)
-  pub made-number : (node : ℕ) → ofAnswer (madeOf node .answer) ≡ first (row 1 (not (leb 1 node && leb node 127)) ∷ [])
+  pub line-number : (c : Call) (l : Line) → refusedAs (m .onLine) c l ≡ first (rowsFor c l)
+  pub head-number : (c : alone.Call) (h : Head) → refusedAlone (m .onHead) c h ≡ first (rowsAlone c h)
+  pub made-number : (node : ℕ) → ofAnswer (m .onHead .make node .answer) ≡ first (nodeRow node ∷ [])
+  -- 20 exactly when one of its clauses fails
+  pub twenty : Twenty
+  -- a head that is made has the number given in force and in 00h; refused, it is the factory head, which is the one made with 31
+  pub made-head : (node : ℕ) → ofAnswer (m .onHead .make node .answer) ≡ none → Numbered (m .onHead .make node .head) node
+  pub made-factory : (node n : ℕ) → ofAnswer (m .onHead .make node .answer) ≡ some n
+      → (m .onHead .make node .head ≡ factoryOf) × (factoryOf ≡ m .onHead .make 31 .head) × Numbered factoryOf 31
   -- refused, it changes no line and no head, and no byte of the space
-  pub line-same : (c : Call) (l : Line) (n : ℕ) → refusedAs c l ≡ some n → after c l ≡ l
-  pub space-same : (l : Line) (b t : ℕ) (space : List ℕ) (n : ℕ) → refusedAs (byte b t (length space)) l ≡ some n → byteSpaceOf l b t space ≡ space
-  pub head-same : (c : alone.Call) (h : Head) (n : ℕ) → numbered (alone.refusalBy c h) ≡ some n
-      → (alone.headAfter c h ≡ h) × (alone.spaceAfter c h ≡ alone.lentBy c)
+  pub line-same : (c : Call) (l : Line) (n : ℕ) → refusedAs (m .onLine) c l ≡ some n → after (m .onLine) c l ≡ l
+  pub space-same : (l : Line) (b t : ℕ) (space : List ℕ) (n : ℕ)
+      → refusedAs (m .onLine) (byte b t (length space)) l ≡ some n → m .onLine .space l b t space ≡ space
+  pub head-same : (c : alone.Call) (h : Head) (n : ℕ) → refusedAlone (m .onHead) c h ≡ some n
+      → (headAfter (m .onHead) c h ≡ h) × (spaceAfter (m .onHead) c h ≡ alone.lentBy c)

@@ -1,8 +1,16 @@
 pub mod Calls
 pub mod Past
 pub mod Run
+pub mod Alone
+pub mod Lines
+pub mod Every
+pub mod Bits
+pub mod Twenty
 pub mod Demand1
 pub mod Demand2
 pub mod Demand3
+pub mod Wrong
 pub mod Cases
+pub mod Sentences
+pub mod Real
 pub mod Outcomes

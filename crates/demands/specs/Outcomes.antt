@@ -1,169 +1,157 @@
--- Two outcomes that a contract allows are equal: one statement for each public function, and for each lent space, over the definition that
--- its contract cites. A contract says `r ≡ definition arguments`; whatever two results meet it are then the same.
+-- Two outcomes that a contract allows are equal: one statement for each public function, over its contract itself. `Reads.Post` is what the
+-- check makes of the function's `ensures`: the fact that is proved of the arguments, the result and what is lent, as it is left.
+-- tools/outcomes sees that each public function has its field, and that it cites its own contract.
 -- Assumes nothing.
+use Prim.Native.Nat.{ℕ}
 use mathlib.Core.Path.{_≡_}
-use Rattle.wire.specs.Check as wire-Check
-use Rattle.wire.specs.Faults as wire-Faults
-use Rattle.wire.specs.Telegram as wire-Telegram
-use Rattle.wire.specs.Word as wire-Word
-use Rattle.signed.specs.Number as signed-Number
-use lib.IntN as lib-IntN
-use Rattle.signed.specs.Rounding as signed-Rounding
-use Rattle.signed.specs.Difference as signed-Difference
-use Rattle.signed.specs.Position as signed-Position
-use Rattle.rows.specs.Access as rows-Access
-use Rattle.rows.specs.Kinds as rows-Kinds
-use Rattle.rows.specs.Ranges as rows-Ranges
-use Rattle.rows.specs.Resets as rows-Resets
-use Rattle.rows.specs.Table as rows-Table
-use Rattle.judge.specs.Commands as judge-Commands
-use Rattle.judge.specs.Deeds as judge-Deeds
-use Rattle.judge.specs.Judged as judge-Judged
-use Rattle.judge.specs.Verdicts as judge-Verdicts
-use Rattle.state.specs.Errors as state-Errors
-use Rattle.state.specs.Position as state-Position
-use Rattle.state.specs.Status as state-Status
-use Rattle.state.specs.Wellformed as state-Wellformed
-use Rattle.effects.specs.Aimed as effects-Aimed
-use Rattle.effects.specs.Faults as effects-Faults
-use Rattle.effects.specs.Measured as effects-Measured
-use Rattle.effects.specs.Restart as effects-Restart
-use Rattle.effects.specs.Stored as effects-Stored
-use Rattle.head.specs.Calls as head-Calls
-use Rattle.head.specs.Hear as head-Hear
-use Rattle.head.specs.Moves as head-Moves
-use Rattle.head.specs.Refusals as head-Refusals
-use Rattle.head.specs.Reply as head-Reply
-use Rattle.line.specs.Calls as line-Calls
-use Rattle.script.specs.Meaning as script-Meaning
-use Rattle.hex.specs.Digits as hex-Digits
-use Rattle.state.specs.declared.parts.Head.{Head}
-use Rattle.line.specs.declared.calls.Line.{Line}
+use mathlib.Core.List.{List}
+use contract.Lifetimes.{Lfts}
+use denote.Triple.Clauses.{Lasts, atExit}
+use borrow.Fn.Kinds.{PK, RK, Dens, resT, endedOf, Out}
+use Rattle.wire.proofs.check as wire-check
+use Rattle.wire.proofs.fault as wire-fault
+use Rattle.wire.proofs.telegram as wire-telegram
+use Rattle.wire.proofs.word as wire-word
+use Rattle.signed.proofs as signed
+use Rattle.rows.proofs.access as rows-access
+use Rattle.rows.proofs.kind as rows-kind
+use Rattle.rows.proofs.range as rows-range
+use Rattle.rows.proofs.resets as rows-resets
+use Rattle.rows.proofs.table as rows-table
+use Rattle.judge.proofs.command as judge-command
+use Rattle.judge.proofs.deed as judge-deed
+use Rattle.judge.proofs.judged as judge-judged
+use Rattle.judge.proofs.verdict as judge-verdict
+use Rattle.state.proofs.errors as state-errors
+use Rattle.state.proofs.position as state-position
+use Rattle.state.proofs.status as state-status
+use Rattle.state.proofs.wellformed as state-wellformed
+use Rattle.effects.proofs.aim as effects-aim
+use Rattle.effects.proofs.errors as effects-errors
+use Rattle.effects.proofs.measure as effects-measure
+use Rattle.effects.proofs.restart as effects-restart
+use Rattle.effects.proofs.store as effects-store
+use Rattle.head.proofs.calls as head-calls
+use Rattle.head.proofs.hear as head-hear
+use Rattle.head.proofs.moves as head-moves
+use Rattle.head.proofs.refusal as head-refusal
+use Rattle.reply.proofs as reply
+use Rattle.line.proofs.calls as line-calls
+use Rattle.script.proofs as script
+use Rattle.hex.proofs as hex
 
--- at most one value is allowed where this is the one that the contract names
-abbrev pub One : {A : Type 0} → A → Type 0
-One {A} x = (r q : A) → r ≡ x → q ≡ x → r ≡ q
-
-abbrev pub One1 : {A Z : Type 0} → (A → Z) → Type 0
-One1 {A} {Z} f = (a : A) → One (f a)
-
-abbrev pub One2 : {A B Z : Type 0} → (A → B → Z) → Type 0
-One2 {A} {B} {Z} f = (a : A) (b : B) → One (f a b)
-
-abbrev pub One3 : {A B C Z : Type 0} → (A → B → C → Z) → Type 0
-One3 {A} {B} {C} {Z} f = (a : A) (b : B) (c : C) → One (f a b c)
-
-abbrev pub One4 : {A B C D Z : Type 0} → (A → B → C → D → Z) → Type 0
-One4 {A} {B} {C} {D} {Z} f = (a : A) (b : B) (c : C) (d : D) → One (f a b c d)
-
-abbrev pub One5 : {A B C D E Z : Type 0} → (A → B → C → D → E → Z) → Type 0
-One5 {A} {B} {C} {D} {E} {Z} f = (a : A) (b : B) (c : C) (d : D) (e : E) → One (f a b c d e)
+-- whatever the arguments a, with two results y and z, and two contents u and v of all that is lent at the return (nothing, where none is lent
+-- to be written): if the contract allows both, the results are equal and so are the contents
+abbrev pub One : {n : ℕ} (ps : List (PK n)) (r : RK n) → Out n ps r → Type 0
+One {n} ps r post =
+    (κs : Lfts n) (a : Dens κs ps) (y z : resT r κs .Denot) (u v : Lasts (endedOf n ps r) κs a)
+    → post κs a y (atExit (endedOf n ps r) κs a u) → post κs a z (atExit (endedOf n ps r) κs a v) → (y ≡ z) × (u ≡ v)
 
 pub record Outcomes : Type 0 where
-  pub wire-check-exclusive-or : One1 wire-Check.xorAll
-  pub wire-check-sound : One1 wire-Check.soundOf
-  pub wire-fault-code : One1 wire-Faults.codeOf
-  pub wire-telegram-fields : One1 wire-Telegram.fieldsOf
-  pub wire-telegram-bytes : One1 wire-Telegram.bytesOf
-  pub wire-word-half : One2 wire-Word.halfOf
-  pub wire-word-whole : One4 wire-Word.wholeOf
-  pub wire-word-first : One1 wire-Word.byte0
-  pub wire-word-second : One1 wire-Word.byte1
-  pub wire-word-third : One1 wire-Word.byte2
-  pub wire-word-fourth : One1 wire-Word.byte3
-  pub wire-word-high : One1 wire-Word.byte2
-  pub wire-word-low : One1 wire-Word.byte3
-  pub signed-number : One1 signed-Number.numberOf
-  pub signed-word : One1 signed-Number.wordOf
-  pub signed-size : One1 lib-IntN.natAbs
-  pub signed-distance : One2 signed-Number.distanceOf
-  pub signed-divisor : One1 signed-Rounding.divisorOf
-  pub signed-rounded : One2 signed-Rounding.roundedOf
-  pub signed-difference : One1 signed-Difference.heldOf
-  pub signed-differential : One3 signed-Difference.differentialOf
-  pub signed-absolute : One4 signed-Position.absoluteOf
-  pub signed-relative : One2 signed-Position.relativeOf
-  pub rows-access-access-of : One1 rows-Access.accessOf
-  pub rows-access-broadcast : One1 rows-Access.broadcastOf
-  pub rows-kind-kind-of : One1 rows-Kinds.kindOf
-  pub rows-range-is-signed : One1 rows-Ranges.isSignedOf
-  pub rows-range-reading : One2 rows-Ranges.readingOf
-  pub rows-range-range-of : One2 rows-Ranges.rangeOf
-  pub rows-range-fits-at : One2 rows-Ranges.fitsIn
-  pub rows-range-all-right : One1 rows-Ranges.allRightOf
-  pub rows-resets-bus : One1 rows-Resets.busOf
-  pub rows-resets-resets : One2 rows-Resets.resetsOf
-  pub rows-table-row-of : One1 rows-Table.rowOf
-  pub rows-table-place-of : One1 rows-Table.placeOf
-  pub judge-command-command-of : One1 judge-Commands.commandOf
-  pub judge-command-reads : One1 judge-Commands.readsOf
-  pub judge-command-writes : One1 judge-Commands.writesOf
-  pub judge-command-casts : One1 judge-Commands.castsOf
-  pub judge-command-changes : One1 judge-Commands.changesOf
-  pub judge-deed-deed-of : One5 judge-Deeds.deedOf
-  pub judge-judged-judge : One2 judge-Judged.judgedOf
-  pub judge-verdict-verdict-of : One3 judge-Verdicts.verdictOf
-  pub state-errors-empty-list : One state-Errors.emptyList
-  pub state-errors-remembered : One2 state-Errors.rememberedOf
-  pub state-errors-code-at : One2 state-Errors.codeAtOf
-  pub state-position-position : One2 state-Position.positionOf
-  pub state-position-view : One2 state-Position.viewOf
-  pub state-status-aim : One3 state-Status.aimOf
-  pub state-status-status : One1 state-Status.statusOf
-  pub state-status-within : One3 state-Status.withinOf
-  pub state-status-difference : One3 state-Status.differenceOf
-  pub state-wellformed-in-reach : One1 state-Wellformed.inReachOf
-  pub state-wellformed-wellformed : One1 state-Wellformed.wellformedOf
-  pub effects-aim-no-targets : One effects-Aimed.noTargets
-  pub effects-aim-settled : One3 effects-Aimed.settledOf
-  pub effects-aim-targets-by : One4 effects-Aimed.targetsBy
-  pub effects-errors-raised : One2 effects-Faults.raisedOf
-  pub effects-errors-counted : One2 effects-Faults.countedOf
-  pub effects-errors-complained : One2 effects-Faults.complainedOf
-  pub effects-errors-restarted : One1 effects-Faults.restartedFaults
-  pub effects-errors-faults-by : One3 effects-Faults.faultsBy
-  pub effects-measure-calibrated : One2 effects-Measured.calibratedOf
-  pub effects-measure-switched : One1 effects-Measured.switchedOf
-  pub effects-measure-restarted : One1 effects-Measured.restartedMeasurement
-  pub effects-measure-moved : One2 effects-Measured.movedOf
-  pub effects-measure-measurement-by : One3 effects-Measured.measurementBy
-  pub effects-restart-empty-ear : One1 effects-Restart.emptyEar
-  pub effects-restart-stopped-monitor : One effects-Restart.stopped
-  pub effects-restart-restarted : One1 effects-Restart.restartedOf
-  pub effects-restart-fresh : One1 effects-Restart.freshOf
-  pub effects-store-locked : One1 effects-Stored.lockedOf
-  pub effects-store-restarted : One1 effects-Stored.restartedStored
-  pub effects-store-stored-by : One2 effects-Stored.storedBy
-  pub head-calls-factory : One head-Calls.factoryOf
-  pub head-calls-node-fits : One1 head-Calls.nodeFits
-  pub head-calls-make : One1 head-Calls.madeOf
-  pub head-calls-lay-space : One2 head-Calls.laidOn
-  pub head-calls-byte : One4 head-Calls.byteOf
-  pub head-calls-byte-space : One4 head-Calls.byteSpaceOf
-  pub head-calls-tick : One2 head-Calls.tickOf
-  pub head-calls-measure : One2 head-Calls.measureOf
-  pub head-calls-keys : One2 head-Calls.keysOf
-  pub head-calls-power : One1 head-Calls.powerOf
-  pub head-calls-number-in-force : (h : Head) → One (h .stored .number)
-  pub head-calls-baud-in-force : (h : Head) → One (h .stored .baud)
-  pub head-hear-elapsed : One2 head-Hear.elapsedOf
-  pub head-hear-standing : One1 head-Hear.standingOf
-  pub head-hear-step : One3 head-Hear.stepOf
-  pub head-moves-ticked : One2 head-Moves.tickedOf
-  pub head-moves-measured : One2 head-Moves.measuredOf
-  pub head-moves-keyed : One2 head-Moves.keyedOf
-  pub head-refusal-number : One1 head-Refusals.refusalOf
-  pub head-reply-reply-to : One3 head-Reply.replyOf
-  pub line-calls-empty : One line-Calls.emptyOf
-  pub line-calls-count : (l : Line) → One (l .count)
-  pub line-calls-fits : One1 line-Calls.fitsOf
-  pub line-calls-grow : One2 line-Calls.growOf
-  pub line-calls-byte : One4 line-Calls.byteOf
-  pub line-calls-byte-space : One4 line-Calls.byteSpaceOf
-  pub line-calls-tick : One2 line-Calls.tickOf
-  pub line-calls-measure : One3 line-Calls.measureOf
-  pub line-calls-keys : One3 line-Calls.keysOf
-  pub line-calls-power : One2 line-Calls.powerOf
-  pub script-meaning : One1 script-Meaning.meaningOf
-  pub script-byte-at : One3 script-Meaning.byteAtOf
-  pub hex-spell : One2 hex-Digits.spelledOn
+  pub wire-check-exclusive-or : One wire-check.exclusive_or.Kinds.ps wire-check.exclusive_or.Kinds.r wire-check.exclusive_or.Reads.Post
+  pub wire-check-sound : One wire-check.sound.Kinds.ps wire-check.sound.Kinds.r wire-check.sound.Reads.Post
+  pub wire-fault-code : One wire-fault.Fault.code.Kinds.ps wire-fault.Fault.code.Kinds.r wire-fault.Fault.code.Reads.Post
+  pub wire-telegram-fields : One wire-telegram.fields.Kinds.ps wire-telegram.fields.Kinds.r wire-telegram.fields.Reads.Post
+  pub wire-telegram-bytes : One wire-telegram.bytes.Kinds.ps wire-telegram.bytes.Kinds.r wire-telegram.bytes.Reads.Post
+  pub wire-word-half : One wire-word.half.Kinds.ps wire-word.half.Kinds.r wire-word.half.Reads.Post
+  pub wire-word-whole : One wire-word.whole.Kinds.ps wire-word.whole.Kinds.r wire-word.whole.Reads.Post
+  pub wire-word-first : One wire-word.first.Kinds.ps wire-word.first.Kinds.r wire-word.first.Reads.Post
+  pub wire-word-second : One wire-word.second.Kinds.ps wire-word.second.Kinds.r wire-word.second.Reads.Post
+  pub wire-word-third : One wire-word.third.Kinds.ps wire-word.third.Kinds.r wire-word.third.Reads.Post
+  pub wire-word-fourth : One wire-word.fourth.Kinds.ps wire-word.fourth.Kinds.r wire-word.fourth.Reads.Post
+  pub wire-word-high : One wire-word.high.Kinds.ps wire-word.high.Kinds.r wire-word.high.Reads.Post
+  pub wire-word-low : One wire-word.low.Kinds.ps wire-word.low.Kinds.r wire-word.low.Reads.Post
+  pub signed-number : One signed.number.Kinds.ps signed.number.Kinds.r signed.number.Reads.Post
+  pub signed-word : One signed.word.Kinds.ps signed.word.Kinds.r signed.word.Reads.Post
+  pub signed-size : One signed.size.Kinds.ps signed.size.Kinds.r signed.size.Reads.Post
+  pub signed-distance : One signed.distance.Kinds.ps signed.distance.Kinds.r signed.distance.Reads.Post
+  pub signed-divisor : One signed.divisor.Kinds.ps signed.divisor.Kinds.r signed.divisor.Reads.Post
+  pub signed-rounded : One signed.rounded.Kinds.ps signed.rounded.Kinds.r signed.rounded.Reads.Post
+  pub signed-difference : One signed.difference.Kinds.ps signed.difference.Kinds.r signed.difference.Reads.Post
+  pub signed-differential : One signed.differential.Kinds.ps signed.differential.Kinds.r signed.differential.Reads.Post
+  pub signed-absolute : One signed.absolute.Kinds.ps signed.absolute.Kinds.r signed.absolute.Reads.Post
+  pub signed-relative : One signed.relative.Kinds.ps signed.relative.Kinds.r signed.relative.Reads.Post
+  pub rows-access-access-of : One rows-access.access_of.Kinds.ps rows-access.access_of.Kinds.r rows-access.access_of.Reads.Post
+  pub rows-access-broadcast : One rows-access.broadcast.Kinds.ps rows-access.broadcast.Kinds.r rows-access.broadcast.Reads.Post
+  pub rows-kind-kind-of : One rows-kind.kind_of.Kinds.ps rows-kind.kind_of.Kinds.r rows-kind.kind_of.Reads.Post
+  pub rows-range-is-signed : One rows-range.is_signed.Kinds.ps rows-range.is_signed.Kinds.r rows-range.is_signed.Reads.Post
+  pub rows-range-reading : One rows-range.reading.Kinds.ps rows-range.reading.Kinds.r rows-range.reading.Reads.Post
+  pub rows-range-range-of : One rows-range.range_of.Kinds.ps rows-range.range_of.Kinds.r rows-range.range_of.Reads.Post
+  pub rows-range-fits-at : One rows-range.fits_at.Kinds.ps rows-range.fits_at.Kinds.r rows-range.fits_at.Reads.Post
+  pub rows-range-all-right : One rows-range.all_right.Kinds.ps rows-range.all_right.Kinds.r rows-range.all_right.Reads.Post
+  pub rows-resets-bus : One rows-resets.bus.Kinds.ps rows-resets.bus.Kinds.r rows-resets.bus.Reads.Post
+  pub rows-resets-resets : One rows-resets.resets.Kinds.ps rows-resets.resets.Kinds.r rows-resets.resets.Reads.Post
+  pub rows-table-row-of : One rows-table.row_of.Kinds.ps rows-table.row_of.Kinds.r rows-table.row_of.Reads.Post
+  pub rows-table-place-of : One rows-table.place_of.Kinds.ps rows-table.place_of.Kinds.r rows-table.place_of.Reads.Post
+  pub judge-command-command-of : One judge-command.command_of.Kinds.ps judge-command.command_of.Kinds.r judge-command.command_of.Reads.Post
+  pub judge-command-reads : One judge-command.reads.Kinds.ps judge-command.reads.Kinds.r judge-command.reads.Reads.Post
+  pub judge-command-writes : One judge-command.writes.Kinds.ps judge-command.writes.Kinds.r judge-command.writes.Reads.Post
+  pub judge-command-casts : One judge-command.casts.Kinds.ps judge-command.casts.Kinds.r judge-command.casts.Reads.Post
+  pub judge-command-changes : One judge-command.changes.Kinds.ps judge-command.changes.Kinds.r judge-command.changes.Reads.Post
+  pub judge-deed-deed-of : One judge-deed.deed_of.Kinds.ps judge-deed.deed_of.Kinds.r judge-deed.deed_of.Reads.Post
+  pub judge-judged-judge : One judge-judged.judge.Kinds.ps judge-judged.judge.Kinds.r judge-judged.judge.Reads.Post
+  pub judge-verdict-verdict-of : One judge-verdict.verdict_of.Kinds.ps judge-verdict.verdict_of.Kinds.r judge-verdict.verdict_of.Reads.Post
+  pub state-errors-empty-list : One state-errors.empty_list.Kinds.ps state-errors.empty_list.Kinds.r state-errors.empty_list.Reads.Post
+  pub state-errors-remembered : One state-errors.remembered.Kinds.ps state-errors.remembered.Kinds.r state-errors.remembered.Reads.Post
+  pub state-errors-entry : One state-errors.entry.Kinds.ps state-errors.entry.Kinds.r state-errors.entry.Reads.Post
+  pub state-position-position : One state-position.position.Kinds.ps state-position.position.Kinds.r state-position.position.Reads.Post
+  pub state-position-view : One state-position.view.Kinds.ps state-position.view.Kinds.r state-position.view.Reads.Post
+  pub state-status-aim : One state-status.aim.Kinds.ps state-status.aim.Kinds.r state-status.aim.Reads.Post
+  pub state-status-status : One state-status.status.Kinds.ps state-status.status.Kinds.r state-status.status.Reads.Post
+  pub state-status-within : One state-status.within.Kinds.ps state-status.within.Kinds.r state-status.within.Reads.Post
+  pub state-status-difference : One state-status.difference.Kinds.ps state-status.difference.Kinds.r state-status.difference.Reads.Post
+  pub state-wellformed-in-reach : One state-wellformed.in_reach.Kinds.ps state-wellformed.in_reach.Kinds.r state-wellformed.in_reach.Reads.Post
+  pub state-wellformed-wellformed : One state-wellformed.wellformed.Kinds.ps state-wellformed.wellformed.Kinds.r state-wellformed.wellformed.Reads.Post
+  pub effects-aim-no-targets : One effects-aim.no_targets.Kinds.ps effects-aim.no_targets.Kinds.r effects-aim.no_targets.Reads.Post
+  pub effects-aim-settled : One effects-aim.settled.Kinds.ps effects-aim.settled.Kinds.r effects-aim.settled.Reads.Post
+  pub effects-aim-targets-by : One effects-aim.targets_by.Kinds.ps effects-aim.targets_by.Kinds.r effects-aim.targets_by.Reads.Post
+  pub effects-errors-raised : One effects-errors.raised.Kinds.ps effects-errors.raised.Kinds.r effects-errors.raised.Reads.Post
+  pub effects-errors-counted : One effects-errors.counted.Kinds.ps effects-errors.counted.Kinds.r effects-errors.counted.Reads.Post
+  pub effects-errors-complained : One effects-errors.complained.Kinds.ps effects-errors.complained.Kinds.r effects-errors.complained.Reads.Post
+  pub effects-errors-restarted : One effects-errors.restarted.Kinds.ps effects-errors.restarted.Kinds.r effects-errors.restarted.Reads.Post
+  pub effects-errors-faults-by : One effects-errors.faults_by.Kinds.ps effects-errors.faults_by.Kinds.r effects-errors.faults_by.Reads.Post
+  pub effects-measure-calibrated : One effects-measure.calibrated.Kinds.ps effects-measure.calibrated.Kinds.r effects-measure.calibrated.Reads.Post
+  pub effects-measure-switched : One effects-measure.switched.Kinds.ps effects-measure.switched.Kinds.r effects-measure.switched.Reads.Post
+  pub effects-measure-restarted : One effects-measure.restarted.Kinds.ps effects-measure.restarted.Kinds.r effects-measure.restarted.Reads.Post
+  pub effects-measure-moved : One effects-measure.moved.Kinds.ps effects-measure.moved.Kinds.r effects-measure.moved.Reads.Post
+  pub effects-measure-measurement-by : One effects-measure.measurement_by.Kinds.ps effects-measure.measurement_by.Kinds.r effects-measure.measurement_by.Reads.Post
+  pub effects-restart-empty-ear : One effects-restart.empty_ear.Kinds.ps effects-restart.empty_ear.Kinds.r effects-restart.empty_ear.Reads.Post
+  pub effects-restart-stopped-monitor : One effects-restart.stopped_monitor.Kinds.ps effects-restart.stopped_monitor.Kinds.r effects-restart.stopped_monitor.Reads.Post
+  pub effects-restart-restarted : One effects-restart.restarted.Kinds.ps effects-restart.restarted.Kinds.r effects-restart.restarted.Reads.Post
+  pub effects-restart-fresh : One effects-restart.fresh.Kinds.ps effects-restart.fresh.Kinds.r effects-restart.fresh.Reads.Post
+  pub effects-store-locked : One effects-store.locked.Kinds.ps effects-store.locked.Kinds.r effects-store.locked.Reads.Post
+  pub effects-store-restarted : One effects-store.restarted.Kinds.ps effects-store.restarted.Kinds.r effects-store.restarted.Reads.Post
+  pub effects-store-stored-by : One effects-store.stored_by.Kinds.ps effects-store.stored_by.Kinds.r effects-store.stored_by.Reads.Post
+  pub head-calls-factory : One head-calls.factory.Kinds.ps head-calls.factory.Kinds.r head-calls.factory.Reads.Post
+  pub head-calls-node-fits : One head-calls.node_fits.Kinds.ps head-calls.node_fits.Kinds.r head-calls.node_fits.Reads.Post
+  pub head-calls-make : One head-calls.make.Kinds.ps head-calls.make.Kinds.r head-calls.make.Reads.Post
+  pub head-calls-lay : One head-calls.lay.Kinds.ps head-calls.lay.Kinds.r head-calls.lay.Reads.Post
+  pub head-calls-byte : One head-calls.byte.Kinds.ps head-calls.byte.Kinds.r head-calls.byte.Reads.Post
+  pub head-calls-tick : One head-calls.tick.Kinds.ps head-calls.tick.Kinds.r head-calls.tick.Reads.Post
+  pub head-calls-measure : One head-calls.measure.Kinds.ps head-calls.measure.Kinds.r head-calls.measure.Reads.Post
+  pub head-calls-keys : One head-calls.keys.Kinds.ps head-calls.keys.Kinds.r head-calls.keys.Reads.Post
+  pub head-calls-power : One head-calls.power.Kinds.ps head-calls.power.Kinds.r head-calls.power.Reads.Post
+  pub head-calls-number-in-force : One head-calls.number_in_force.Kinds.ps head-calls.number_in_force.Kinds.r head-calls.number_in_force.Reads.Post
+  pub head-calls-baud-in-force : One head-calls.baud_in_force.Kinds.ps head-calls.baud_in_force.Kinds.r head-calls.baud_in_force.Reads.Post
+  pub head-hear-elapsed : One head-hear.elapsed.Kinds.ps head-hear.elapsed.Kinds.r head-hear.elapsed.Reads.Post
+  pub head-hear-gather : One head-hear.gather.Kinds.ps head-hear.gather.Kinds.r head-hear.gather.Reads.Post
+  pub head-hear-standing : One head-hear.standing.Kinds.ps head-hear.standing.Kinds.r head-hear.standing.Reads.Post
+  pub head-hear-tell : One head-hear.tell.Kinds.ps head-hear.tell.Kinds.r head-hear.tell.Reads.Post
+  pub head-hear-step : One head-hear.step.Kinds.ps head-hear.step.Kinds.r head-hear.step.Reads.Post
+  pub head-moves-ticked : One head-moves.ticked.Kinds.ps head-moves.ticked.Kinds.r head-moves.ticked.Reads.Post
+  pub head-moves-measured : One head-moves.measured.Kinds.ps head-moves.measured.Kinds.r head-moves.measured.Reads.Post
+  pub head-moves-keyed : One head-moves.keyed.Kinds.ps head-moves.keyed.Kinds.r head-moves.keyed.Reads.Post
+  pub head-refusal-number : One head-refusal.Refusal.number.Kinds.ps head-refusal.Refusal.number.Kinds.r head-refusal.Refusal.number.Reads.Post
+  pub reply-reply-to : One reply.reply_to.Kinds.ps reply.reply_to.Kinds.r reply.reply_to.Reads.Post
+  pub line-calls-empty : One line-calls.empty.Kinds.ps line-calls.empty.Kinds.r line-calls.empty.Reads.Post
+  pub line-calls-count : One line-calls.count.Kinds.ps line-calls.count.Kinds.r line-calls.count.Reads.Post
+  pub line-calls-fits : One line-calls.fits.Kinds.ps line-calls.fits.Kinds.r line-calls.fits.Reads.Post
+  pub line-calls-grow : One line-calls.grow.Kinds.ps line-calls.grow.Kinds.r line-calls.grow.Reads.Post
+  pub line-calls-byte : One line-calls.byte.Kinds.ps line-calls.byte.Kinds.r line-calls.byte.Reads.Post
+  pub line-calls-tick : One line-calls.tick.Kinds.ps line-calls.tick.Kinds.r line-calls.tick.Reads.Post
+  pub line-calls-measure : One line-calls.measure.Kinds.ps line-calls.measure.Kinds.r line-calls.measure.Reads.Post
+  pub line-calls-keys : One line-calls.keys.Kinds.ps line-calls.keys.Kinds.r line-calls.keys.Reads.Post
+  pub line-calls-power : One line-calls.power.Kinds.ps line-calls.power.Kinds.r line-calls.power.Reads.Post
+  pub script-meaning : One script.meaning.Kinds.ps script.meaning.Kinds.r script.meaning.Reads.Post
+  pub script-byte-at : One script.byte_at.Kinds.ps script.byte_at.Kinds.r script.byte_at.Reads.Post
+  pub hex-spell : One hex.spell.Kinds.ps hex.spell.Kinds.r hex.spell.Reads.Post

@@ -1,5 +1,6 @@
--- The account of a head's stored parameters, its number in force and its interlock, found by looking back over the calls. It names no head
--- and no line: its imports are the wire, the table of parameters, the command byte and the calls.
+-- The account of a line, found by looking back over the calls: how many heads there are, and of each its stored parameters, its number in
+-- force, its interlock and the bytes that stand gathered. It names no head and no line: its imports are the wire, the table of parameters
+-- and the calls.
 -- Assumes nothing.
 use Prim.Native.Nat.{ℕ, suc, _+_, _-_, _%_}
 use mathlib.Core.Bool.{Bool, true, false, cond, not, _&&_, _||_}
@@ -12,19 +13,48 @@ use Rattle.wire.specs.Check.{soundOf}
 use Rattle.wire.specs.Telegram.{fieldsOf}
 use Rattle.rows.specs.declared.access.Access.{Access}
 use Rattle.rows.specs.declared.access.Access.the-variants.{ReadWrite, ReadOnly, WriteOnly, Unknown}
-use Rattle.rows.specs.declared.kind.Kind.{Kind}
-use Rattle.rows.specs.declared.kind.Kind.the-variants.{Stored, SetPoint1, SetPoint2, Identification, Version, ErrorCount, ErrorAt, InputErrors, StatusWord, Differential, Pending, Position, System, Calibration, Interlock, Freezing, Unassigned}
-use Rattle.rows.specs.Table.{rowOf, delivery}
-use Rattle.rows.specs.Access.{accessOf, broadcastOf}
-use Rattle.rows.specs.Kinds.{kindOf}
+use Rattle.rows.specs.Among.{among}
+use Rattle.rows.specs.Table.{rowOf, address, delivery}
+use Rattle.rows.specs.Access.{stored, accessOf}
 use Rattle.rows.specs.Ranges.{rangeOf, isRight}
-use Rattle.rows.specs.Resets.{resetsOf}
-use Rattle.judge.specs.declared.command.Command.{Command}
-use Rattle.judge.specs.declared.command.Command.the-variants.{Read, Write, Broadcast, Other}
-use Rattle.judge.specs.Commands.{commandOf}
-use Rattle.demands.specs.Calls.{Call, newHead, byte, tick, measure, keys, power, Calls, start, _▸_}
+use Rattle.demands.specs.Calls.{Ask, measure, keys, power, Call, newHead, byte, tick, named, Calls, start, _▸_}
 
--- ---- which calls added a head: a node number of 1 to 127, while there are fewer than eight
+-- ---- what is kept
+-- the bytes that stand gathered, and when the last was heard
+pub record Ear : Type 0 where
+  pub bytes : List ℕ
+  pub last : ℕ
+
+-- of a head: the value of the parameter at each place, the number in force, whether the interlock is open, the bytes
+pub record Entry : Type 0 where
+  pub value : ℕ → ℕ
+  pub number : ℕ
+  pub isOpen : Bool
+  pub ear : Ear
+
+-- of the line: how many heads there are, and the entry of each
+pub record Account : Type 0 where
+  pub count : ℕ
+  pub entry : ℕ → Entry
+
+-- what a call changes of a head: the value that it gives the parameter at a place, where it touches it; whether it restarts the head;
+-- whether the interlock is open then, where it touches that
+pub record Change : Type 0 where
+  pub gives : ℕ → Option ℕ
+  pub restarts : Bool
+  pub opens : Option Bool
+
+abbrev pub nothing : Change
+nothing = record { gives = λ r. none; restarts = false; opens = none }
+
+-- ---- a head is made: its delivery values, that of 00h being the node number
+unfoldable pub delivered : ℕ → ℕ → ℕ
+delivered node r = cond (eqb r 0) node (delivery (rowOf r))
+
+abbrev pub making : ℕ → Change
+making node = record { gives = λ r. some (delivered node r); restarts = true; opens = some false }
+
+-- a node number of 1 to 127, while there are fewer than eight
 unfoldable pub mayAdd : ℕ → ℕ → Bool
 mayAdd n node = ltb n 8 && (leb 1 node && leb node 127)
 
@@ -32,244 +62,142 @@ unfoldable pub grown : Call → ℕ → ℕ
 grown (newHead node) n = cond (mayAdd n node) (suc n) n
 grown (byte b t s) n = n
 grown (tick t) n = n
-grown (measure j m) n = n
-grown (keys j s) n = n
-grown (power j) n = n
+grown (named j a) n = n
 
-unfoldable pub count : Calls → ℕ
-count start = 0
-count (cs ▸ c) = grown c (count cs)
-
--- ---- the bytes that stand gathered for head k: a byte call with ten bytes of space is heard by every head, a gap of more than 10 ms starts
--- anew, and power and the making of the head leave none
+-- ---- bytes are gathered: a byte call with ten bytes of space is heard by every head, and a gap of more than 10 ms starts anew
 abbrev pub room : ℕ → Bool
 room s = leb 10 s
-
-unfoldable pub clock : Call → ℕ → ℕ
-clock (newHead node) o = o
-clock (byte b t s) o = cond (room s) t o
-clock (tick t) o = o
-clock (measure j m) o = o
-clock (keys j s) o = o
-clock (power j) o = o
-
--- when the last byte was heard
-unfoldable pub heardAt : Calls → ℕ
-heardAt start = 0
-heardAt (cs ▸ c) = clock c (heardAt cs)
 
 -- the difference modulo 4,294,967,296 of two millisecond readings
 unfoldable pub since : ℕ → ℕ → ℕ
 since now then = (now + 4294967296 - then) % 4294967296
 
-unfoldable pub gather : List ℕ → ℕ → ℕ → ℕ → List ℕ
-gather got last b t = cond (leb (since t last) 10) (got ++ (b ∷ [])) (b ∷ [])
+unfoldable pub gather : Ear → ℕ → ℕ → List ℕ
+gather e b t = cond (leb (since t (e .last)) 10) (e .bytes ++ (b ∷ [])) (b ∷ [])
 
 -- ten make a telegram, and none stand gathered then
 unfoldable pub kept : List ℕ → List ℕ
 kept l = cond (ltb (length l) 10) l []
 
--- head k is the one that this call makes; it is the one whose power this call cuts
-abbrev pub makes : ℕ → ℕ → ℕ → Bool
-makes n node k = mayAdd n node && eqb k n
+unfoldable pub earBy : Call → Ear → Ear
+earBy (newHead node) e = e
+earBy (byte b t s) e = cond (room s) (record { bytes = kept (gather e b t); last = t }) e
+earBy (tick t) e = e
+earBy (named j a) e = e
 
-abbrev pub cuts : ℕ → ℕ → ℕ → Bool
-cuts n j k = ltb j n && eqb k j
-
-unfoldable pub gatheredBy : Call → ℕ → ℕ → ℕ → List ℕ → List ℕ
-gatheredBy (newHead node) n o k l = cond (makes n node k) [] l
-gatheredBy (byte b t s) n o k l = cond (room s) (kept (gather l o b t)) l
-gatheredBy (tick t) n o k l = l
-gatheredBy (measure j m) n o k l = l
-gatheredBy (keys j s) n o k l = l
-gatheredBy (power j) n o k l = cond (cuts n j k) [] l
-
-unfoldable pub gathered : Calls → ℕ → List ℕ
-gathered start k = []
-gathered (cs ▸ c) k = gatheredBy c (count cs) (heardAt cs) k (gathered cs k)
-
--- ---- what a call was for head k
-pub data Event : Type 0 where
-  idle : Event
-  made : ℕ → Event
-  cut : Event
-  heard : List ℕ → Event
-
-unfoldable pub whole : List ℕ → Event
-whole l = cond (ltb (length l) 10) idle (heard l)
-
-unfoldable pub eventBy : Call → ℕ → ℕ → ℕ → List ℕ → Event
-eventBy (newHead node) n o k l = cond (makes n node k) (made node) idle
-eventBy (byte b t s) n o k l = cond (room s) (whole (gather l o b t)) idle
-eventBy (tick t) n o k l = idle
-eventBy (measure j m) n o k l = idle
-eventBy (keys j s) n o k l = idle
-eventBy (power j) n o k l = cond (cuts n j k) cut idle
-
-abbrev pub event : Calls → Call → ℕ → Event
-event cs c k = eventBy c (count cs) (heardAt cs) k (gathered cs k)
+abbrev pub noBytes : Ear
+noBytes = record { bytes = []; last = 0 }
 
 -- ---- was a telegram accepted, by the number in force and by whether the head was locked: it is sound; it is a write at the number in force
--- or a broadcast; the parameter may be written, or broadcast; it is not locked; the value is right
-unfoldable pub reaches : Command → Bool → Bool
-reaches Read mine = false
-reaches Write mine = mine
-reaches Broadcast mine = true
-reaches Other mine = false
+-- to a parameter that may be written, or a broadcast to one that may be broadcast; it is not locked; the value is right
+abbrev pub writable : Access → Bool
+writable ReadWrite = true
+writable ReadOnly = false
+writable WriteOnly = true
+writable Unknown = false
 
-unfoldable pub permits : Command → Access → Bool → Bool
-permits Read a castable = false
-permits Write ReadWrite castable = true
-permits Write ReadOnly castable = false
-permits Write WriteOnly castable = true
-permits Write Unknown castable = false
-permits Broadcast ReadWrite castable = castable
-permits Broadcast ReadOnly castable = castable
-permits Broadcast WriteOnly castable = castable
-permits Broadcast Unknown castable = false
-permits Other a castable = false
+abbrev pub writes : ℕ → Telegram → Bool
+writes force t = eqb (t .command) 1 && (eqb (t .node) force && writable (accessOf (t .parameter)))
+
+-- A0h, A8h and AAh may be broadcast
+abbrev pub castable : ℕ → Bool
+castable a = among (0xA0 ∷ 0xA8 ∷ 0xAA ∷ []) a
+
+abbrev pub casts : Telegram → Bool
+casts t = eqb (t .command) 2 && castable (t .parameter)
 
 -- one of the 39, or A0h
-unfoldable pub lockable : Kind → Bool
-lockable (Stored i) = true
-lockable SetPoint1 = false
-lockable SetPoint2 = false
-lockable Identification = false
-lockable Version = false
-lockable ErrorCount = false
-lockable (ErrorAt i) = false
-lockable InputErrors = false
-lockable StatusWord = false
-lockable Differential = false
-lockable Pending = false
-lockable Position = false
-lockable System = true
-lockable Calibration = false
-lockable Interlock = false
-lockable Freezing = false
-lockable Unassigned = false
+unfoldable pub lockable : ℕ → Bool
+lockable a = among stored a || eqb a 0xA0
 
 abbrev pub acceptedFields : ℕ → Bool → Telegram → Bool
 acceptedFields force locked t =
-    reaches (commandOf (t .command)) (eqb (t .node) force)
-    && (permits (commandOf (t .command)) (accessOf (t .parameter)) (broadcastOf (t .parameter))
-    && (not (locked && lockable (kindOf (t .parameter)))
-    && isRight (rangeOf (t .parameter) (t .value))))
+    (writes force t || casts t) && (not (locked && lockable (t .parameter)) && isRight (rangeOf (t .parameter) (t .value)))
 
 unfoldable pub accepted : ℕ → Bool → List ℕ → Bool
 accepted force locked ten = soundOf ten && acceptedFields force locked (fieldsOf ten)
 
--- ---- what an accepted telegram does: the value that it gives the parameter at place r, whether it restarts the head, whether it opens the
--- interlock
-unfoldable pub gives : Kind → ℕ → ℕ → Option ℕ
-gives (Stored i) v r = cond (eqb r i) (some v) none
-gives SetPoint1 v r = none
-gives SetPoint2 v r = none
-gives Identification v r = none
-gives Version v r = none
-gives ErrorCount v r = none
-gives (ErrorAt i) v r = none
-gives InputErrors v r = none
-gives StatusWord v r = none
-gives Differential v r = none
-gives Pending v r = none
-gives Position v r = none
-gives System v r = cond (resetsOf v r) (some (delivery (rowOf r))) none
-gives Calibration v r = none
-gives Interlock v r = none
-gives Freezing v r = none
-gives Unassigned v r = none
+-- the bus parameters; A0h 1 resets all, 2 all but these, 5 these
+abbrev pub bus : ℕ → Bool
+bus a = among (0x00 ∷ 0x01 ∷ 0x02 ∷ 0x03 ∷ 0x0E ∷ 0xD0 ∷ []) a
 
-abbrev pub isSystem : Kind → Bool
-isSystem (Stored i) = false
-isSystem SetPoint1 = false
-isSystem SetPoint2 = false
-isSystem Identification = false
-isSystem Version = false
-isSystem ErrorCount = false
-isSystem (ErrorAt i) = false
-isSystem InputErrors = false
-isSystem StatusWord = false
-isSystem Differential = false
-isSystem Pending = false
-isSystem Position = false
-isSystem System = true
-isSystem Calibration = false
-isSystem Interlock = false
-isSystem Freezing = false
-isSystem Unassigned = false
+abbrev pub resets : ℕ → ℕ → Bool
+resets v a = cond (eqb v 1) true (cond (eqb v 2) (not (bus a)) (cond (eqb v 5) (bus a) false))
 
-abbrev pub isInterlock : Kind → Bool
-isInterlock (Stored i) = false
-isInterlock SetPoint1 = false
-isInterlock SetPoint2 = false
-isInterlock Identification = false
-isInterlock Version = false
-isInterlock ErrorCount = false
-isInterlock (ErrorAt i) = false
-isInterlock InputErrors = false
-isInterlock StatusWord = false
-isInterlock Differential = false
-isInterlock Pending = false
-isInterlock Position = false
-isInterlock System = false
-isInterlock Calibration = false
-isInterlock Interlock = true
-isInterlock Freezing = false
-isInterlock Unassigned = false
+-- what an accepted telegram does: written to one of the 39, its value is given there; A0h resets or, with 9, restarts; A8h 1 opens
+unfoldable pub gives : ℕ → ℕ → ℕ → Option ℕ
+gives a v r =
+    cond (eqb a (address (rowOf r))) (some v) (cond (eqb a 0xA0 && resets v (address (rowOf r))) (some (delivery (rowOf r))) none)
 
-unfoldable pub restarts : Kind → ℕ → Bool
-restarts k v = isSystem k && eqb v 9
+abbrev pub obeying : ℕ → ℕ → Change
+obeying a v =
+    record { gives = λ r. gives a v r; restarts = eqb a 0xA0 && eqb v 9; opens = cond (eqb a 0xA8) (some (eqb v 1)) none }
 
-unfoldable pub opens : Kind → ℕ → Bool → Bool
-opens k v old = cond (isInterlock k) (eqb v 1) old
+-- 0Eh is 1 and the interlock closed; 0Eh stands at place 14
+abbrev pub locked : Entry → Bool
+locked e = eqb (e .value 14) 1 && not (e .isOpen)
 
--- ---- the delivery value of a head made with a node number
-unfoldable pub delivered : ℕ → ℕ → ℕ
-delivered node r = cond (eqb r 0) node (delivery (rowOf r))
+abbrev pub telling : Entry → List ℕ → Change
+telling e ten = cond (accepted (e .number) (locked e) ten) (obeying (fieldsOf ten .parameter) (fieldsOf ten .value)) nothing
 
--- the value that the event gave the parameter at place r, where it touched it
-unfoldable pub touched : Event → ℕ → Bool → ℕ → Option ℕ
-touched idle force locked r = none
-touched (made node) force locked r = some (delivered node r)
-touched cut force locked r = none
-touched (heard ten) force locked r =
-    cond (accepted force locked ten) (gives (kindOf (fieldsOf ten .parameter)) (fieldsOf ten .value) r) none
+-- fewer than ten bytes are no telegram yet
+unfoldable pub hearing : Entry → List ℕ → Change
+hearing e l = cond (ltb (length l) 10) nothing (telling e l)
 
-unfoldable pub look : Option ℕ → ℕ → ℕ
+-- ---- a head is asked by its number; power is cut
+abbrev pub cutting : Change
+cutting = record { gives = λ r. none; restarts = true; opens = none }
+
+unfoldable pub asked : Ask → Entry → Change
+asked (measure m) e = nothing
+asked (keys s) e = nothing
+asked power e = cutting
+
+-- ---- what a call changes of head k of n
+-- head k is the one that this call makes; it is the one that this call names
+abbrev pub makes : ℕ → ℕ → ℕ → Bool
+makes n node k = mayAdd n node && eqb k n
+
+abbrev pub names : ℕ → ℕ → ℕ → Bool
+names n j k = ltb j n && eqb k j
+
+unfoldable pub change : Call → ℕ → ℕ → Entry → Change
+change (newHead node) n k e = cond (makes n node k) (making node) nothing
+change (byte b t s) n k e = cond (room s) (hearing e (gather (e .ear) b t)) nothing
+change (tick t) n k e = nothing
+change (named j a) n k e = cond (names n j k) (asked a e) nothing
+
+unfoldable pub look : {A : Type 0} → Option A → A → A
 look (some v) before = v
 look none before = before
 
--- the number in force after the event: a restart takes the value of 00h into force
-unfoldable pub forceBy : Event → ℕ → Bool → ℕ → ℕ
-forceBy idle force locked node = force
-forceBy (made n) force locked node = n
-forceBy cut force locked node = node
-forceBy (heard ten) force locked node =
-    cond (accepted force locked ten && restarts (kindOf (fieldsOf ten .parameter)) (fieldsOf ten .value)) node force
+-- the entry after a change, with the bytes as they stand gathered now: a restart takes the value of 00h into force and leaves no bytes
+unfoldable pub next : Change → Ear → Entry → Entry
+next g ear e =
+    record {
+      value = λ r. look (g .gives r) (e .value r);
+      number = cond (g .restarts) (look (g .gives 0) (e .value 0)) (e .number);
+      isOpen = look (g .opens) (e .isOpen);
+      ear = cond (g .restarts) noBytes ear;
+    }
 
--- whether the interlock is open after the event: a restart keeps it
-unfoldable pub openBy : Event → ℕ → Bool → Bool → Bool
-openBy idle force locked old = old
-openBy (made n) force locked old = false
-openBy cut force locked old = old
-openBy (heard ten) force locked old =
-    cond (accepted force locked ten) (opens (kindOf (fieldsOf ten .parameter)) (fieldsOf ten .value) old) old
+abbrev pub entryBy : Call → ℕ → ℕ → Entry → Entry
+entryBy c n k e = next (change c n k e) (earBy c (e .ear)) e
 
--- 0Eh is 1 and the interlock closed; 0Eh stands at place 14
-abbrev pub lockedBy : ℕ → Bool → Bool
-lockedBy mode isOpen = eqb mode 1 && not isOpen
+-- ---- the account after these calls
+unfoldable pub account : Calls → Account
+account start = record { count = 0; entry = λ k. record { value = delivered 31; number = 31; isOpen = false; ear = noBytes } }
+account (cs ▸ c) =
+    record { count = grown c (account cs .count); entry = λ k. entryBy c (account cs .count) k (account cs .entry k) }
 
--- ---- the value of the parameter at place r, the number in force and the interlock of head k after these calls, looking back from the last
-unfoldable mutual
-  pub value : Calls → ℕ → ℕ → ℕ
-  value start k r = delivery (rowOf r)
-  value (cs ▸ c) k r = look (touched (event cs c k) (inForce cs k) (lockedBy (value cs k 14) (isOpen cs k)) r) (value cs k r)
+abbrev pub count : Calls → ℕ
+count cs = account cs .count
 
-  pub inForce : Calls → ℕ → ℕ
-  inForce start k = 31
-  inForce (cs ▸ c) k = forceBy (event cs c k) (inForce cs k) (lockedBy (value cs k 14) (isOpen cs k)) (value cs k 0)
+abbrev pub entry : Calls → ℕ → Entry
+entry cs k = account cs .entry k
 
-  pub isOpen : Calls → ℕ → Bool
-  isOpen start k = false
-  isOpen (cs ▸ c) k = openBy (event cs c k) (inForce cs k) (lockedBy (value cs k 14) (isOpen cs k)) (isOpen cs k)
+abbrev pub value : Calls → ℕ → ℕ → ℕ
+value cs k r = entry cs k .value r
+
+abbrev pub inForce : Calls → ℕ → ℕ
+inForce cs k = entry cs k .number

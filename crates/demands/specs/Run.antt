@@ -1,47 +1,146 @@
--- A line grown from none by a list of calls: the iteration of the definitions that the contracts of the crate line cite.
+-- Systems: the calls on a head alone and on a line, the product's own or those of a wrong version (Wrong). The demands are asked of a system, so
+-- that a wrong one can be shown to fail them. Demand 3 asks less of it, a machine, whose heads and lines may be any.
 -- Assumes nothing.
-use Prim.Native.Nat.{ℕ, suc}
+use Prim.Native.Nat.{ℕ, zero, suc}
+use mathlib.Core.Bool.{Bool}
 use mathlib.Core.List.{List, [], _∷_, _++_}
-use Rattle.wire.specs.declared.telegram.Telegram.{Telegram}
+use lib.ListN.{length, take}
 use Rattle.wire.specs.Telegram.{bytesOf}
 use Rattle.state.specs.declared.parts.Head.{Head}
 use Rattle.effects.specs.Restart.{emptyEar}
-use Rattle.head.specs.Hear.{stepOf, withEar}
+use Rattle.head.specs.declared.calls.Called as head-Called
+use Rattle.head.specs.declared.calls.Fed as head-Fed
+use Rattle.head.specs.declared.calls.Heard.{Heard}
+use Rattle.head.specs.declared.calls.Heard.the-variants as heard
+use Rattle.head.specs.Hear.{withEar}
+use Rattle.head.specs.Calls as head
+use Rattle.head.specs.Outcome as alone
 use Rattle.line.specs.declared.calls.Line.{Line}
-use Rattle.line.specs.Round.{saidBy}
-use Rattle.line.specs.Calls.{emptyOf, headAt, repliesAt, growOf, byteOf, tickOf, measureOf, keysOf, powerOf}
-use Rattle.demands.specs.Calls.{Call, newHead, byte, tick, measure, keys, power, Calls, start, _▸_}
+use Rattle.line.specs.declared.calls.Called.{Called}
+use Rattle.line.specs.declared.calls.Fed.{Fed}
+use Rattle.line.specs.Calls.{emptyOf, headAt, fitsOf, growOf, byteOf, byteSpaceOf, tickOf, measureOf, keysOf, powerOf}
+use Rattle.demands.specs.Calls.{Ask, measure, keys, power, Call, newHead, byte, tick, named, Calls, start, _▸_}
 
-unfoldable pub after : Call → Line → Line
-after (newHead node) l = growOf l node .line
-after (byte b t s) l = byteOf l b t s .line
-after (tick t) l = tickOf l t .line
-after (measure j m) l = measureOf l j m .line
-after (keys j s) l = keysOf l j s .line
-after (power j) l = powerOf l j .line
+-- ---- the calls on a head alone: it is made with a node number; a byte, by its time and the length of the space lent, and the space after it;
+-- a tick, a measurement, a key state, power
+pub record OnHead : Type 0 where
+  pub make : ℕ → head-Called.Called
+  pub byte : Head → ℕ → ℕ → ℕ → head-Fed.Fed
+  pub space : Head → ℕ → ℕ → List ℕ → List ℕ
+  pub ask : alone.Ask → Head → head-Called.Called
 
-unfoldable pub run : Calls → Line
-run start = emptyOf
-run (cs ▸ c) = after c (run cs)
+-- the calls on a line: it is grown by a node number; a byte; a tick; a call that names a head
+pub record OnLine : Type 0 where
+  pub grow : Line → ℕ → Called
+  pub byte : Line → ℕ → ℕ → ℕ → Fed
+  pub space : Line → ℕ → ℕ → List ℕ → List ℕ
+  pub tick : Line → ℕ → Called
+  pub ask : Ask → Line → ℕ → Called
 
--- head k of the line
-abbrev pub at : Calls → ℕ → Head
-at cs k = headAt (run cs) k
+pub record System : Type 0 where
+  pub onHead : OnHead
+  pub onLine : OnLine
 
--- the replies that a byte draws after the calls
-abbrev pub repliesTo : Calls → ℕ → ℕ → List (List ℕ)
-repliesTo cs b t = repliesAt (run cs) b t
+-- ---- the product: the definitions that the contracts of the crates head and line cite
+unfoldable pub askOf : Ask → Line → ℕ → Called
+askOf (measure m) l j = measureOf l j m
+askOf (keys s) l j = keysOf l j s
+askOf power l j = powerOf l j
 
--- ---- bytes put to a head alone, byte i at the time τ i: its replies
-abbrev pub answers : List ℕ → (ℕ → ℕ) → ℕ → Head → List (List ℕ)
-answers [] τ i h = []
-answers (b ∷ bs) τ i h = saidBy (stepOf h b (τ i)) ++ answers bs τ (suc i) (stepOf h b (τ i) .head)
+abbrev pub product : System
+product =
+    record {
+      onHead = record { make = head.madeOf; byte = head.byteOf; space = head.byteSpaceOf; ask = alone.called };
+      onLine = record { grow = growOf; byte = byteOf; space = byteSpaceOf; tick = tickOf; ask = askOf };
+    }
 
--- the head with no bytes gathered
-abbrev pub emptied : Head → Head
-emptied h = withEar h (emptyEar 0)
+-- the same asked of a head alone
+abbrev pub aloneOf : Ask → alone.Ask
+aloneOf (measure m) = alone.measure m
+aloneOf (keys s) = alone.keys s
+aloneOf power = alone.power
+
+-- the line after a call
+unfoldable pub after : OnLine → Call → Line → Line
+after m (newHead node) l = m .grow l node .line
+after m (byte b t s) l = m .byte l b t s .line
+after m (tick t) l = m .tick l t .line
+after m (named j a) l = m .ask a l j .line
+
+-- ---- what demand 3 asks of a machine
+pub record Machine : Type 1 where
+  -- a line, and a head taken from it
+  pub Line : Type 0
+  pub Head : Type 0
+  -- a line with no head; the line after a call; what a byte call returns, by byte, time and length of the space
+  pub none : Line
+  pub after : Call → Line → Line
+  pub heard : Line → ℕ → ℕ → ℕ → Heard
+  -- how many heads it has, whether it is well-formed (no refusal 20), and the head at a place
+  pub count : Line → ℕ
+  pub fits : Line → Bool
+  pub headOf : Line → ℕ → Head
+  -- a head's number in force, its stored values, and the head with no bytes gathered
+  pub number : Head → ℕ
+  pub values : Head → List ℕ
+  pub emptied : Head → Head
+  -- a byte call on it alone, by byte, time and space lent: the head after it, what it returns, and the space
+  pub fed : Head → ℕ → ℕ → List ℕ → Head
+  pub told : Head → ℕ → ℕ → List ℕ → Heard
+  pub space : Head → ℕ → ℕ → List ℕ → List ℕ
+
+-- a system as a machine
+abbrev pub machineOf : System → Machine
+machineOf m =
+    record {
+      Line = Line;
+      Head = Head;
+      none = emptyOf;
+      after = λ c l. after (m .onLine) c l;
+      heard = λ l b t s. m .onLine .byte l b t s .heard;
+      count = λ l. l .count;
+      fits = fitsOf;
+      headOf = headAt;
+      number = λ h. h .stored .number;
+      values = λ h. h .stored .values;
+      emptied = λ h. withEar h (emptyEar 0);
+      fed = λ h b t s. m .onHead .byte h b t (length s) .head;
+      told = λ h b t s. m .onHead .byte h b t (length s) .heard;
+      space = m .onHead .space;
+    }
+
+-- the line after the calls, and head k of it
+unfoldable pub runs : (m : Machine) → Calls → m .Line
+runs m start = m .none
+runs m (cs ▸ c) = m .after c (runs m cs)
+
+abbrev pub headAfter : (m : Machine) → Calls → ℕ → m .Head
+headAfter m cs k = m .headOf (runs m cs) k
+
+-- the replies of bytes put to a head alone, one byte call each, byte i at the time τ i: where a call returns one, it stands in the first ten
+-- bytes of the space; more than one are not just one
+abbrev pub replied : Heard → List ℕ → List (List ℕ)
+replied (heard.Replies zero) x = []
+replied (heard.Replies (suc zero)) x = x ∷ []
+replied (heard.Replies (suc (suc n))) x = x ∷ x ∷ []
+replied (heard.Refused why) x = []
+
+abbrev pub answers : (m : Machine) → List ℕ → (ℕ → ℕ) → ℕ → m .Head → List ℕ → List (List ℕ)
+answers m [] τ i h s = []
+answers m (b ∷ bs) τ i h s =
+    replied (m .told h b (τ i) s) (take 10 (m .space h b (τ i) s)) ++ answers m bs τ (suc i) (m .fed h b (τ i) s) s
 
 -- a sound read of a parameter at a number, whatever its control word and data
 abbrev pub readOf : ℕ → ℕ → ℕ → ℕ → List ℕ
 readOf number address word value =
     bytesOf (record { command = 0; node = number; parameter = address; word = word; value = value })
+
+-- ---- the product as a machine: the line after the calls, and head k of it
+abbrev pub built : Machine
+built = machineOf product
+
+abbrev pub run : Calls → Line
+run cs = runs built cs
+
+abbrev pub headIn : Calls → ℕ → Head
+headIn cs k = headAt (run cs) k

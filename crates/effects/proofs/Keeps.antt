@@ -26,12 +26,13 @@ use Rattle.state.specs.declared.parts.Head.{Head}
 use Rattle.state.specs.declared.parts.Stored.{Stored}
 use Rattle.state.specs.declared.parts.Faults.{Faults}
 use Rattle.state.specs.declared.parts.Measurement.{Measurement}
+use Rattle.state.specs.Bits.{bitSet}
 use Rattle.state.specs.Settings.{nodePlace, offsetPlace, calibrationPlace}
 use Rattle.state.specs.Errors.{emptyList}
 use Rattle.state.specs.Wellformed.{inReachOf, storedFits, faultsFit, measurementFits, earFits, wellformedOf}
 use Rattle.state.proofs.Laws.{stored-told, stored-holds, faults-told, faults-holds, measurement-told, measurement-holds, ear-holds, told, holds, remembered-few, small-reach, shown-small}
 use Rattle.effects.specs.Stored.{resetValue, resetFrom, resetOf, restartedStored, storedBy}
-use Rattle.effects.specs.Faults.{takenOf, withDamaged, withPending, raisedOf, countedOf, complainedOf, acknowledgedOf, restartedFaults, faultsBy}
+use Rattle.effects.specs.Faults.{withDamaged, withPending, raisedOf, countedOf, complainedOf, acknowledgedOf, restartedFaults, faultsBy}
 use Rattle.effects.specs.Measured.{calibratedOf, switchedOf, frozenOf, releasedOf, restartedMeasurement, movedOf, measurementBy}
 use Rattle.effects.specs.Restart.{emptyEar, restartedOf, deliveredOf, unpowered, freshOf}
 
@@ -73,7 +74,7 @@ stored-keeps (Store i w) s f h =
 stored-keeps (Reset command) s f h =
     let k = stored-told s h in
     stored-holds _ (record { values = reset-right command (s .values) (k .values); number = k .number })
-stored-keeps Restart s f h = restarted-stored s (stored-told s h .values)
+stored-keeps Restart s f h = h
 stored-keeps Calibrate s f h = h
 stored-keeps Forget s f h = h
 stored-keeps (Unlock b) s f h = let k = stored-told s h in stored-holds _ (record { values = k .values; number = k .number })
@@ -116,7 +117,7 @@ pending-keeps f code h =
 acknowledged-keeps : (word last : ℕ) (f : Faults) → faultsFit f ≡ true → faultsFit (acknowledgedOf word last f) ≡ true
 unfolding acknowledgedOf
 acknowledged-keeps word last f h =
-    either faultsFit (takenOf word 32 && not (takenOf last 32)) (withPending f 0) f (λ _. pending-keeps f 0 h) h
+    either faultsFit (bitSet word 5 && not (bitSet last 5)) (withPending f 0) f (λ _. pending-keeps f 0 h) h
 
 restarted-faults : (f : Faults) → faultsFit f ≡ true → faultsFit (restartedFaults f) ≡ true
 unfolding restartedFaults emptyList
@@ -127,7 +128,7 @@ unfolding faultsBy emptyList
 faults-keeps Nothing last f h = h
 faults-keeps (Store i w) last f h = h
 faults-keeps (Reset n) last f h = h
-faults-keeps Restart last f h = restarted-faults f h
+faults-keeps Restart last f h = h
 faults-keeps Calibrate last f h = h
 faults-keeps Forget last f h =
     let k = faults-told f h in
@@ -187,7 +188,7 @@ unfolding measurementBy
 measurement-keeps Nothing vs g a h = h
 measurement-keeps (Store i w) vs g a h = h
 measurement-keeps (Reset n) vs g a h = h
-measurement-keeps Restart vs g a h = restarted-measurement g h
+measurement-keeps Restart vs g a h = h
 measurement-keeps Calibrate vs g a h = calibrated-keeps vs g a h
 measurement-keeps Forget vs g a h = h
 measurement-keeps (Unlock b) vs g a h = h

@@ -18,14 +18,14 @@ use Rattle.effects.specs.Measured.{measurementBy}
 use Rattle.effects.specs.Aimed.{targetsBy}
 
 abbrev pub storedKeys : List ℕ
-storedKeys = 0 ∷ 4 ∷ 5 ∷ 7 ∷ 8 ∷ 9 ∷ 10 ∷ 11 ∷ []
+storedKeys = 0 ∷ 3 ∷ 4 ∷ 5 ∷ 7 ∷ 8 ∷ 9 ∷ 10 ∷ 11 ∷ []
 
 pub stored-rest : (d : Deed) (s : Stored) → OneOf storedKeys (tagOf the-type d) → s ≡ storedBy d s
 unfolding storedBy
 stored-rest Nothing s h = refl
 stored-rest (Store i w) s h = absurd (miss storedKeys 1 tt h)
 stored-rest (Reset n) s h = absurd (miss storedKeys 2 tt h)
-stored-rest Restart s h = absurd (miss storedKeys 3 tt h)
+stored-rest Restart s h = refl
 stored-rest Calibrate s h = refl
 stored-rest Forget s h = refl
 stored-rest (Unlock b) s h = absurd (miss storedKeys 6 tt h)
@@ -36,14 +36,14 @@ stored-rest ClearStatic s h = refl
 stored-rest Release s h = refl
 
 abbrev pub faultsKeys : List ℕ
-faultsKeys = 0 ∷ 1 ∷ 2 ∷ 4 ∷ 6 ∷ 7 ∷ 10 ∷ 11 ∷ []
+faultsKeys = 0 ∷ 1 ∷ 2 ∷ 3 ∷ 4 ∷ 6 ∷ 7 ∷ 10 ∷ 11 ∷ []
 
 pub faults-rest : (d : Deed) (last : ℕ) (f : Faults) → OneOf faultsKeys (tagOf the-type d) → f ≡ faultsBy d last f
 unfolding faultsBy
 faults-rest Nothing last f h = refl
 faults-rest (Store i w) last f h = refl
 faults-rest (Reset n) last f h = refl
-faults-rest Restart last f h = absurd (miss faultsKeys 3 tt h)
+faults-rest Restart last f h = refl
 faults-rest Calibrate last f h = refl
 faults-rest Forget last f h = absurd (miss faultsKeys 5 tt h)
 faults-rest (Unlock b) last f h = refl
@@ -54,14 +54,14 @@ faults-rest ClearStatic last f h = refl
 faults-rest Release last f h = refl
 
 abbrev pub measurementKeys : List ℕ
-measurementKeys = 0 ∷ 1 ∷ 2 ∷ 5 ∷ 6 ∷ 8 ∷ 9 ∷ 10 ∷ []
+measurementKeys = 0 ∷ 1 ∷ 2 ∷ 3 ∷ 5 ∷ 6 ∷ 8 ∷ 9 ∷ 10 ∷ []
 
 pub measurement-rest : (d : Deed) (vs : List ℕ) (g : Measurement) → OneOf measurementKeys (tagOf the-type d) → g ≡ measurementBy d vs g
 unfolding measurementBy
 measurement-rest Nothing vs g h = refl
 measurement-rest (Store i w) vs g h = refl
 measurement-rest (Reset n) vs g h = refl
-measurement-rest Restart vs g h = absurd (miss measurementKeys 3 tt h)
+measurement-rest Restart vs g h = refl
 measurement-rest Calibrate vs g h = absurd (miss measurementKeys 4 tt h)
 measurement-rest Forget vs g h = refl
 measurement-rest (Unlock b) vs g h = refl
@@ -72,14 +72,14 @@ measurement-rest ClearStatic vs g h = refl
 measurement-rest Release vs g h = absurd (miss measurementKeys 11 tt h)
 
 abbrev pub targetsKeys : List ℕ
-targetsKeys = 0 ∷ 1 ∷ 2 ∷ 4 ∷ 5 ∷ 6 ∷ 7 ∷ 11 ∷ []
+targetsKeys = 0 ∷ 1 ∷ 2 ∷ 3 ∷ 4 ∷ 5 ∷ 6 ∷ 7 ∷ 11 ∷ []
 
 pub targets-rest : (d : Deed) (vs : List ℕ) (g : Measurement) (t : Targets) → OneOf targetsKeys (tagOf the-type d) → t ≡ targetsBy d vs g t
 unfolding targetsBy
 targets-rest Nothing vs g t h = refl
 targets-rest (Store i w) vs g t h = refl
 targets-rest (Reset n) vs g t h = refl
-targets-rest Restart vs g t h = absurd (miss targetsKeys 3 tt h)
+targets-rest Restart vs g t h = refl
 targets-rest Calibrate vs g t h = refl
 targets-rest Forget vs g t h = refl
 targets-rest (Unlock b) vs g t h = refl

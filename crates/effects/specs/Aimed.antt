@@ -1,14 +1,14 @@
 -- What happens to the set points and the static bit (document 01, FBh, FFh and FAh of "What each one does", bit 4 of "Position and status").
 -- Assumes nothing.
 use Prim.Native.Nat.{ℕ}
-use mathlib.Core.Bool.{true, false, not, _&&_, _||_}
+use mathlib.Core.Bool.{false, not, _&&_, _||_}
 use mathlib.Core.List.{List}
 use Rattle.judge.specs.declared.deed.Deed.{Deed}
 use Rattle.judge.specs.declared.deed.Deed.the-variants.{Nothing, Store, Reset, Restart, Calibrate, Forget, Unlock, Freeze, Aim1, Aim2, ClearStatic, Release}
 use Rattle.state.specs.declared.parts.Measurement.{Measurement}
 use Rattle.state.specs.declared.parts.Targets.{Targets}
+use Rattle.state.specs.Bits.{bitSet}
 use Rattle.state.specs.Status.{withinOf}
-use Rattle.effects.specs.Faults.{takenOf}
 
 -- set points 0 and invalid, taken control word 0, static bit cleared
 unfoldable pub noTargets : Targets
@@ -31,11 +31,11 @@ unfoldable pub firstAimed : ℕ → ℕ → Targets → Targets
 firstAimed value word t =
     record {
       first = value;
-      valid1 = takenOf word 4;
+      valid1 = bitSet word 2;
       second = t .second;
       valid2 = t .valid2;
       word = word;
-      reached = t .reached && not (takenOf word 16);
+      reached = t .reached && not (bitSet word 4);
     }
 
 -- FFh takes the control word: bit 9 is the validity, bit 4 clears the static bit, before the write may set it
@@ -45,9 +45,9 @@ secondAimed value word t =
       first = t .first;
       valid1 = t .valid1;
       second = value;
-      valid2 = takenOf word 512;
+      valid2 = bitSet word 9;
       word = word;
-      reached = t .reached && not (takenOf word 16);
+      reached = t .reached && not (bitSet word 4);
     }
 
 -- a read of FAh clears the static bit
@@ -62,11 +62,12 @@ clearedOf t =
       reached = false;
     }
 
+-- what a deed does to them
 unfoldable pub targetsBy : Deed → List ℕ → Measurement → Targets → Targets
 targetsBy Nothing vs g t = t
 targetsBy (Store i word) vs g t = t
 targetsBy (Reset command) vs g t = t
-targetsBy Restart vs g t = noTargets
+targetsBy Restart vs g t = t
 targetsBy Calibrate vs g t = t
 targetsBy Forget vs g t = t
 targetsBy (Unlock b) vs g t = t

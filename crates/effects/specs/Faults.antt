@@ -1,8 +1,8 @@
 -- What a telegram does to the errors (document 01, check 1, "What each one does" and "Times and keys").
 -- Assumes nothing.
-use Prim.Native.Nat.{ℕ, _+_, _/_, _%_}
+use Prim.Native.Nat.{ℕ, _+_}
 use mathlib.Core.Bool.{Bool, cond, not, _&&_}
-use lib.Dec.{eqb, ltb}
+use lib.Dec.{ltb}
 use Rattle.wire.specs.Faults.{codeOf}
 use Rattle.wire.specs.declared.fault.Fault.the-variants.{CheckSum}
 use Rattle.judge.specs.declared.deed.Deed.{Deed}
@@ -11,11 +11,8 @@ use Rattle.judge.specs.declared.verdict.Verdict.{Verdict}
 use Rattle.judge.specs.declared.verdict.Verdict.the-variants.{Obeyed, Silent, Refused}
 use Rattle.state.specs.declared.parts.ErrorList.{ErrorList}
 use Rattle.state.specs.declared.parts.Faults.{Faults}
+use Rattle.state.specs.Bits.{bitSet}
 use Rattle.state.specs.Errors.{emptyList, rememberedOf}
-
--- the bit of this weight is set in a control word
-unfoldable pub takenOf : ℕ → ℕ → Bool
-takenOf word weight = eqb (word / weight % 2) 1
 
 abbrev pub withMemory : Faults → ErrorList → Faults
 withMemory f l = record { memory = l; inputs = f .inputs; pending = f .pending; damaged = f .damaged }
@@ -47,17 +44,18 @@ complainedOf (Refused fault) f = withInputs f (rememberedOf (f .inputs) (codeOf 
 
 -- bit 5 acknowledges the error if the last taken word had it 0
 unfoldable pub acknowledgedOf : ℕ → ℕ → Faults → Faults
-acknowledgedOf word last f = cond (takenOf word 32 && not (takenOf last 32)) (withPending f 0) f
+acknowledgedOf word last f = cond (bitSet word 5 && not (bitSet last 5)) (withPending f 0) f
 
 -- a restart keeps the error memory, and clears the input list, the pending error and the count
 unfoldable pub restartedFaults : Faults → Faults
 restartedFaults f = record { memory = f .memory; inputs = emptyList; pending = 0; damaged = 0 }
 
+-- what a deed does to them; last is the control word that was taken before
 unfoldable pub faultsBy : Deed → ℕ → Faults → Faults
 faultsBy Nothing last f = f
 faultsBy (Store i word) last f = f
 faultsBy (Reset command) last f = f
-faultsBy Restart last f = restartedFaults f
+faultsBy Restart last f = f
 faultsBy Calibrate last f = f
 faultsBy Forget last f = withMemory f emptyList
 faultsBy (Unlock b) last f = f

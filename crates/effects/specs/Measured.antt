@@ -59,11 +59,12 @@ unfoldable pub movedOf : ℤ → Measurement → Measurement
 movedOf m g =
     record { m = m; zero = g .zero; adopted = g .adopted; incremental = g .incremental; start = g .start; frozen = g .frozen; kept = g .kept }
 
+-- what a deed does to it
 unfoldable pub measurementBy : Deed → List ℕ → Measurement → Measurement
 measurementBy Nothing vs g = g
 measurementBy (Store i word) vs g = g
 measurementBy (Reset command) vs g = g
-measurementBy Restart vs g = restartedMeasurement g
+measurementBy Restart vs g = g
 measurementBy Calibrate vs g = calibratedOf vs g
 measurementBy Forget vs g = g
 measurementBy (Unlock b) vs g = g

@@ -1,7 +1,7 @@
 -- What a deed does to the stored part (document 01, "What each one does"). Demand 3 speaks of this part alone.
 -- Assumes nothing.
 use Prim.Native.Nat.{ℕ, suc}
-use mathlib.Core.Bool.{Bool, true, cond, not, _&&_}
+use mathlib.Core.Bool.{Bool, cond, not, _&&_}
 use mathlib.Core.List.{List, [], _∷_}
 use lib.Dec.{eqb}
 use lib.ListN.{set}
@@ -39,11 +39,12 @@ unfoldable pub restartedStored : Stored → Stored
 restartedStored s =
     record { values = s .values; number = valueAt (s .values) nodePlace; baud = valueAt (s .values) baudPlace; unlocked = s .unlocked }
 
+-- what a deed does to it; a restart is of the whole head, and comes after (Restart)
 unfoldable pub storedBy : Deed → Stored → Stored
 storedBy Nothing s = s
 storedBy (Store i word) s = withValues s (set (s .values) i word)
 storedBy (Reset command) s = withValues s (resetOf command (s .values))
-storedBy Restart s = restartedStored s
+storedBy Restart s = s
 storedBy Calibrate s = s
 storedBy Forget s = s
 storedBy (Unlock b) s = withLock s b

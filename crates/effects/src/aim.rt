@@ -1,5 +1,5 @@
 // The targets: both set points with their validity, the taken control word, the static bit.
-use crate::errors;
+use crate::control;
 use judge::deed::Deed;
 use state::parts::Measurement;
 use state::parts::Targets;
@@ -38,9 +38,9 @@ fn aim_first(value: u32, word: u16, t: Targets) -> Targets
 {
     let mut n = t;
     n.first = value;
-    n.valid1 = errors::taken(word, 4);
+    n.valid1 = control::bit(word, 2);
     n.word = word;
-    n.reached = n.reached & !errors::taken(word, 16);
+    n.reached = n.reached & !control::bit(word, 4);
     n
 }
 
@@ -50,9 +50,9 @@ fn aim_second(value: u32, word: u16, t: Targets) -> Targets
 {
     let mut n = t;
     n.second = value;
-    n.valid2 = errors::taken(word, 512);
+    n.valid2 = control::bit(word, 9);
     n.word = word;
-    n.reached = n.reached & !errors::taken(word, 16);
+    n.reached = n.reached & !control::bit(word, 4);
     n
 }
 
@@ -71,7 +71,6 @@ pub fn targets_by(d: Deed, values: [u32; 39], g: Measurement, t: Targets) -> Tar
         Deed::Aim1(value, word) => aim_first(value, word, t),
         Deed::Aim2(value, word) => settled(values, g, aim_second(value, word, t)),
         Deed::ClearStatic => cleared(t),
-        Deed::Restart => no_targets(),
         _ => t,
     }
 }

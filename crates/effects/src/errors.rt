@@ -1,4 +1,5 @@
 // The error part: remembered errors, input errors, the pending error, damaged telegrams in a row.
+use crate::control;
 use judge::deed::Deed;
 use judge::verdict::Verdict;
 use state::errors;
@@ -6,16 +7,7 @@ use state::parts::Faults;
 use wire::fault::Fault;
 ghost use mathlib.Core.Path.{_≡_};
 ghost use mathlib.Core.Bool.{Bool};
-ghost use Prim.Native.Nat.{_<_};
-ghost use Rattle.effects.specs.Faults.{takenOf, raisedOf, countedOf, complainedOf, acknowledgedOf, restartedFaults, faultsBy};
-
-// Whether the bit of this weight is set in a control word.
-pub(crate) fn taken(word: u16, weight: u16) -> bool
-    requires { ⌜ 0 < weight ⌝ }
-    ensures { λ r. ⌜ r ≡ takenOf word weight ⌝ }
-{
-    word / weight % 2 == 1
-}
+ghost use Rattle.effects.specs.Faults.{raisedOf, countedOf, complainedOf, acknowledgedOf, restartedFaults, faultsBy};
 
 // A raised error becomes the pending one and enters the error memory.
 pub fn raised(f: Faults, code: u16) -> Faults
@@ -66,7 +58,7 @@ fn acknowledged(word: u16, last: u16, f: Faults) -> Faults
     ensures { λ r. ⌜ r ≡ acknowledgedOf word last f ⌝ }
 {
     let mut n = f;
-    if taken(word, 32) & !taken(last, 32) {
+    if control::bit(word, 5) & !control::bit(last, 5) {
         n.pending = 0;
     }
     n
@@ -97,7 +89,6 @@ pub fn faults_by(d: Deed, last: u16, f: Faults) -> Faults
         }
         Deed::Aim1(_, word) => acknowledged(word, last, f),
         Deed::Aim2(_, word) => acknowledged(word, last, f),
-        Deed::Restart => restarted(f),
         _ => f,
     }
 }

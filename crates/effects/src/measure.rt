@@ -1,7 +1,7 @@
 // The measurement part: calibration, freezing, incremental measurement.
 use judge::deed::Deed;
-use state::parts::At;
 use state::parts::Measurement;
+use state::parts::Setting;
 use state::position;
 ghost use mathlib.Core.Path.{_≡_};
 ghost use Rattle.effects.specs.Measured.{calibratedOf, switchedOf, frozenOf, releasedOf, restartedMeasurement, movedOf, measurementBy};
@@ -13,7 +13,7 @@ pub fn calibrated(values: [u32; 39], g: Measurement) -> Measurement
     let m = g.m;
     let mut n = g;
     n.zero = m;
-    n.adopted = values[At::CALIBRATION];
+    n.adopted = values[Setting::CALIBRATION];
     n
 }
 
@@ -80,7 +80,6 @@ pub fn measurement_by(d: Deed, values: [u32; 39], g: Measurement) -> Measurement
         Deed::Calibrate => calibrated(values, g),
         Deed::Freeze => frozen(values, g),
         Deed::Release => released(g),
-        Deed::Restart => restarted(g),
         _ => g,
     }
 }

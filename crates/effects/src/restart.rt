@@ -3,12 +3,12 @@ use crate::aim;
 use crate::errors;
 use crate::measure;
 use crate::store;
-use state::parts::At;
 use state::parts::Ear;
 use state::parts::Faults;
 use state::parts::Head;
 use state::parts::Measurement;
 use state::parts::Monitor;
+use state::parts::Setting;
 use state::parts::Stored;
 ghost use mathlib.Core.Path.{_≡_};
 ghost use Rattle.effects.specs.Restart.{emptyEar, stopped, restartedOf, deliveredOf, freshOf};
@@ -54,7 +54,7 @@ fn delivered(node: u32) -> [u32; 39]
     ensures { λ r. ⌜ r ≡ deliveredOf node ⌝ }
 {
     let mut v = store::reset([0u32; 39], 1);
-    v[At::NODE] = node;
+    v[Setting::NODE] = node;
     v
 }
 

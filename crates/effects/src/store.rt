@@ -1,6 +1,6 @@
 // The stored part: the 39 values, the number and the baud setting in force, the interlock.
 use judge::deed::Deed;
-use state::parts::At;
+use state::parts::Setting;
 use state::parts::Stored;
 ghost use mathlib.Core.Path.{_≡_};
 ghost use mathlib.Core.Bool.{Bool};
@@ -11,7 +11,7 @@ pub fn locked(s: Stored) -> bool
     ensures { λ r. ⌜ r ≡ lockedOf s ⌝ }
 {
     let v = s.values;
-    (v[At::INTERLOCK] == 1) & !s.unlocked
+    (v[Setting::INTERLOCK] == 1) & !s.unlocked
 }
 
 // The value at a place after the system command: its delivery value, where the command resets it.
@@ -45,8 +45,8 @@ pub fn restarted(s: Stored) -> Stored
 {
     let mut n = s;
     let v = n.values;
-    n.number = v[At::NODE];
-    n.baud = v[At::BAUD];
+    n.number = v[Setting::NODE];
+    n.baud = v[Setting::BAUD];
     n
 }
 
@@ -70,7 +70,6 @@ pub fn stored_by(d: Deed, s: Stored) -> Stored
             n.unlocked = b;
             n
         }
-        Deed::Restart => restarted(n),
         _ => n,
     }
 }

@@ -1,9 +1,9 @@
 -- Every call keeps a head well-formed, and a new head is well-formed: so a head grown by the calls is never refused with 20.
 -- Assumes nothing.
-use Prim.Native.Nat.{ℕ, _≤_}
+use Prim.Native.Nat.{ℕ}
 use native.Mathlib.Omega.{arith}
 use mathlib.Core.Path.{_≡_, refl}
-use mathlib.Core.Bool.{Bool, true, false, cond, not, _&&_}
+use mathlib.Core.Bool.{Bool, true, false, not, _&&_}
 use mathlib.Core.List.{List}
 use borrow.Author.Tests.{ltb-true, leb-true}
 use lib.Dec.{leb, ltb, eqb}
@@ -14,6 +14,7 @@ use Rattle.wire.specs.declared.fault.Fault.the-variants.{Timeout}
 use Rattle.wire.specs.Telegram.{fieldsOf}
 use Rattle.rows.specs.Table.{rowOf}
 use Rattle.rows.specs.Ranges.{fitsIn}
+use Rattle.rows.proofs.Laws.{node-fits}
 use Rattle.judge.specs.declared.deed.Deed.the-variants.{Store}
 use Rattle.judge.specs.declared.judged.Judged.{Judged}
 use Rattle.judge.specs.Judged.{judgedOf}
@@ -22,35 +23,34 @@ use Rattle.state.specs.declared.parts.Head.{Head}
 use Rattle.state.specs.declared.parts.Ear.{Ear}
 use Rattle.state.specs.Settings.{valueAt, timeoutPlace, calibrationKeyPlace, incrementalKeyPlace}
 use Rattle.state.specs.Wellformed.{inReachOf, earFits, wellformedOf}
-use Rattle.state.proofs.Laws.{Wellformed, told, holds, stored-told, ear-told, ear-holds}
-use Rattle.effects.specs.Faults.{withPending}
+use Rattle.state.proofs.Laws.{told, holds, stored-told, ear-holds}
 use Rattle.effects.specs.Restart.{emptyEar, restartedOf, freshOf}
 use Rattle.effects.proofs.Keeps.{either, stored-keeps, counted-keeps, complained-keeps, faults-keeps, raised-keeps, calibrated-keeps, switched-keeps, moved-keeps, measurement-keeps, empty-ear-fits, pending-keeps, restarted-keeps, fresh-keeps}
-use Rattle.head.specs.declared.hear.Gathered.{Gathered}
-use Rattle.head.specs.Hear.{elapsedOf, keptEar, oneMore, gatheredOn, gatheredOf, standingOf, restartsOf, toldOf, tellOf, withEar, stepBy, stepOf}
-use Rattle.head.specs.Moves.{overdueOf, tickedOf, measuredOf, pressedOf, leftOf, upOf, keyedOf}
-use Rattle.head.specs.Calls.{nodeFits}
-
-few-keys : (t : Bool) (k : ℕ) → k ≤ 7 → cond t 0 k ≤ 7
-few-keys true k h = omega arith
-few-keys false k h = h
+use Rattle.head.specs.Hear.{elapsedOf, keptEar, oneMore, gatheredOn, gatheredOf, standingOf, restartsOf, affectedOf, toldOf, tellOf, withEar, stepBy, stepOf}
+use Rattle.head.specs.Moves.{overdueOf, tickedOf, measuredOf, leftKey, upKey, pressedOf, leftOf, upOf, keyedOf}
+use Rattle.head.specs.Calls.{nodeFits, factoryOf}
 
 abbrev Fit : Head → Type 0
 Fit h = wellformedOf h ≡ true
 
 -- ---- a telegram
-told-fits : (j : Judged) (h : Head) (at : ℕ) → ((i w : ℕ) → j .deed ≡ Store i w → fitsIn (rowOf i) w ≡ true) → Fit h → Fit (toldOf j h at)
-unfolding toldOf
-told-fits j h at s f =
+affected-fits : (j : Judged) (h : Head) (at : ℕ) → ((i w : ℕ) → j .deed ≡ Store i w → fitsIn (rowOf i) w ≡ true) → Fit h → Fit (affectedOf j h at)
+affected-fits j h at s f =
     let w = told h f in
-    holds (toldOf j h at)
+    holds (affectedOf j h at)
     (record {
       stored = stored-keeps (j .deed) (h .stored) s (w .stored);
       faults = faults-keeps (j .deed) (h .targets .word) _ (complained-keeps (j .verdict) _ (counted-keeps (j .sound) _ (w .faults)));
       measurement = measurement-keeps (j .deed) (h .stored .values) (h .measurement) (stored-told (h .stored) (w .stored) .values) (w .measurement);
-      ear = empty-ear-fits _;
-      keys = few-keys (restartsOf (j .deed)) (h .keys) (w .keys);
+      ear = empty-ear-fits at;
+      keys = w .keys;
     })
+
+told-fits : (j : Judged) (h : Head) (at : ℕ) → ((i w : ℕ) → j .deed ≡ Store i w → fitsIn (rowOf i) w ≡ true) → Fit h → Fit (toldOf j h at)
+unfolding toldOf
+told-fits j h at s f =
+    let a = affected-fits j h at s f in
+    either wellformedOf (restartsOf (j .deed)) _ (affectedOf j h at) (λ _. restarted-keeps (affectedOf j h at) a) a
 
 -- ---- a byte that ends no telegram
 kept-few : (e : Ear) (at : ℕ) → earFits e ≡ true → earFits (keptEar e at) ≡ true
@@ -118,8 +118,8 @@ pub keys-fits : (h : Head) (k : ℕ) → leb k 7 ≡ true → wellformedOf h ≡
 unfolding keyedOf
 keys-fits h k r f =
     let w = told h f in
-    up-fits (pressedOf k (h .keys) 4) _
-    (left-fits (pressedOf k (h .keys) 1) _
+    up-fits (pressedOf k (h .keys) upKey) _
+    (left-fits (pressedOf k (h .keys) leftKey) _
     (holds _ (record { stored = w .stored; faults = w .faults; measurement = w .measurement; ear = w .ear; keys = leb-true k 7 r })))
 
 pub restart-fits : (h : Head) → wellformedOf h ≡ true → wellformedOf (restartedOf h) ≡ true
@@ -128,3 +128,7 @@ restart-fits h f = restarted-keeps h f
 pub fresh-fits : (node : ℕ) → nodeFits node ≡ true → wellformedOf (freshOf node) ≡ true
 unfolding nodeFits
 fresh-fits node f = fresh-keeps node f
+
+pub factory-fits : wellformedOf factoryOf ≡ true
+unfolding nodeFits factoryOf
+factory-fits = fresh-fits 31 (node-fits 31 (omega arith) (omega arith))

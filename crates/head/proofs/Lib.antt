@@ -1,4 +1,7 @@
 pub mod Rest
-pub mod Replies
 pub mod Keeps
+pub mod Tests
+pub mod Asked
 pub mod Refused
+pub mod Passes
+pub mod Again

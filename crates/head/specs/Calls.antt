@@ -2,7 +2,7 @@
 -- Assumes nothing.
 use Prim.Native.Nat.{ℕ}
 use mathlib.Core.Bool.{Bool, cond}
-use mathlib.Core.List.{List, _++_}
+use mathlib.Core.List.{List, [], _∷_, _++_}
 use lib.Dec.{leb, ltb}
 use lib.IntN.{ℤ}
 use lib.ListN.{length, drop}
@@ -24,12 +24,24 @@ use Rattle.head.specs.declared.hear.Stepped.{Stepped}
 use Rattle.head.specs.Hear.{stepOf}
 use Rattle.head.specs.Moves.{tickedOf, measuredOf, keyedOf}
 
+-- ---- tests in their order, each with the refusal that is given where it fails: the first that fails decides
+abbrev pub Tests : Type 0
+Tests = List (Bool × Refusal)
+
+abbrev pub guarded : {C : Type 0} → (Refusal → C) → Tests → C → C
+guarded refuse [] done = done
+guarded refuse (t ∷ ts) done = cond (t .0) (guarded refuse ts done) (refuse (t .1))
+
 -- a call that was done, and one that was refused: the head is as it was
 abbrev pub doneWith : Head → Called
 doneWith h = record { head = h; answer = answer.Done }
 
 abbrev pub refusedWith : Head → Refusal → Called
 refusedWith h why = record { head = h; answer = answer.Refused why }
+
+-- a call on a head that lends no space: 20, then its own tests; where all hold, the head is the one that the call makes of it
+abbrev pub askedOf : Head → Tests → Head → Called
+askedOf h own next = guarded (refusedWith h) ((wellformedOf h, Malformed) ∷ own) (doneWith next)
 
 -- the factory head
 unfoldable pub factoryOf : Head
@@ -66,16 +78,14 @@ byteSpaceOf h b at space =
     cond (wellformedOf h) (cond (ltb (length space) 10) space (spaceWith (stepOf h b at) space)) space
 
 unfoldable pub tickOf : Head → ℕ → Called
-tickOf h at = cond (wellformedOf h) (doneWith (tickedOf h at)) (refusedWith h Malformed)
+tickOf h at = askedOf h [] (tickedOf h at)
 
 unfoldable pub measureOf : Head → ℤ → Called
-measureOf h m =
-    cond (wellformedOf h) (cond (inReachOf m) (doneWith (measuredOf h m)) (refusedWith h OutOfReach)) (refusedWith h Malformed)
+measureOf h m = askedOf h ((inReachOf m, OutOfReach) ∷ []) (measuredOf h m)
 
 unfoldable pub keysOf : Head → ℕ → Called
-keysOf h state =
-    cond (wellformedOf h) (cond (leb state 7) (doneWith (keyedOf h state)) (refusedWith h Keys)) (refusedWith h Malformed)
+keysOf h state = askedOf h ((leb state 7, Keys) ∷ []) (keyedOf h state)
 
 -- power: a restart
 unfoldable pub powerOf : Head → Called
-powerOf h = cond (wellformedOf h) (doneWith (restartedOf h)) (refusedWith h Malformed)
+powerOf h = askedOf h [] (restartedOf h)

@@ -2,10 +2,11 @@
 -- and obeyed.
 -- Assumes nothing.
 use Prim.Native.Nat.{ℕ, _+_, _-_, _%_}
-use mathlib.Core.Bool.{Bool, true, false, cond}
+use mathlib.Core.Bool.{Bool, true, false, cond, not, _&&_}
 use mathlib.Core.List.{List}
-use lib.Dec.{ltb}
-use lib.ListN.{set, replicate}
+use lib.Dec.{eqb, ltb}
+use lib.ListN.{getD, set, replicate}
+use Rattle.wire.specs.Check.{soundOf}
 use Rattle.judge.specs.declared.deed.Deed.{Deed}
 use Rattle.judge.specs.declared.deed.Deed.the-variants.{Nothing, Store, Reset, Restart, Calibrate, Forget, Unlock, Freeze, Aim1, Aim2, ClearStatic, Release}
 use Rattle.judge.specs.declared.judged.Judged.{Judged}
@@ -19,11 +20,11 @@ use Rattle.effects.specs.Stored.{lockedOf, storedBy}
 use Rattle.effects.specs.Faults.{countedOf, complainedOf, faultsBy}
 use Rattle.effects.specs.Measured.{measurementBy}
 use Rattle.effects.specs.Aimed.{targetsBy}
-use Rattle.effects.specs.Restart.{emptyEar, stopped}
-use Rattle.head.specs.declared.reply.Said.{Said}
+use Rattle.effects.specs.Restart.{emptyEar, restartedOf}
+use Rattle.reply.specs.declared.Said.{Said}
 use Rattle.head.specs.declared.hear.Gathered.{Gathered}
 use Rattle.head.specs.declared.hear.Stepped.{Stepped}
-use Rattle.head.specs.Reply.{replyOf}
+use Rattle.reply.specs.Reply.{replyOf}
 
 -- the difference modulo 4,294,967,296 of two millisecond readings
 unfoldable pub elapsedOf : ℕ → ℕ → ℕ
@@ -68,18 +69,22 @@ restartsOf Release = false
 unfoldable pub startedOf : Bool → ℕ → Monitor → Monitor
 startedOf sound at m = cond sound (record { running = true; since = at }) m
 
--- the head after a telegram: each part by its own effect; a restart comes last
-unfoldable pub toldOf : Judged → Head → ℕ → Head
-toldOf j h at =
+-- the head after a telegram's own effects: each part by its own
+abbrev pub affectedOf : Judged → Head → ℕ → Head
+affectedOf j h at =
     record {
       stored = storedBy (j .deed) (h .stored);
       faults = faultsBy (j .deed) (h .targets .word) (complainedOf (j .verdict) (countedOf (j .sound) (h .faults)));
       measurement = measurementBy (j .deed) (h .stored .values) (h .measurement);
       targets = targetsBy (j .deed) (h .stored .values) (h .measurement) (h .targets);
-      monitor = cond (restartsOf (j .deed)) stopped (startedOf (j .sound) at (h .monitor));
-      ear = emptyEar (cond (restartsOf (j .deed)) 0 at);
-      keys = cond (restartsOf (j .deed)) 0 (h .keys);
+      monitor = startedOf (j .sound) at (h .monitor);
+      ear = emptyEar at;
+      keys = h .keys;
     }
+
+-- A0h 9: then restart
+unfoldable pub toldOf : Judged → Head → ℕ → Head
+toldOf j h at = cond (restartsOf (j .deed)) (restartedOf (affectedOf j h at)) (affectedOf j h at)
 
 -- the reply, and its status word, are of the head before the telegram's effects
 abbrev pub stepped : Head → Said → Stepped
@@ -87,6 +92,22 @@ stepped h s = record { head = h; replied = s .replied; reply = s .reply }
 
 unfoldable pub tellOf : Head → List ℕ → ℕ → Stepped
 tellOf h ten at = stepped (toldOf (judgedOf ten (standingOf h)) h at) (replyOf (judgedOf ten (standingOf h)) h (statusOf h))
+
+-- sound, no broadcast, and the node byte is not this number: what such a telegram does is `passedOf`, with no reply
+unfoldable pub passesOf : List ℕ → ℕ → Bool
+passesOf ten number = soundOf ten && (not (eqb (getD ten 0 0) 2) && not (eqb (getD ten 1 0) number))
+
+unfoldable pub passedOf : Head → ℕ → Head
+passedOf h at =
+    record {
+      stored = h .stored;
+      faults = countedOf true (h .faults);
+      measurement = h .measurement;
+      targets = h .targets;
+      monitor = startedOf true at (h .monitor);
+      ear = emptyEar at;
+      keys = h .keys;
+    }
 
 abbrev pub withEar : Head → Ear → Head
 withEar h e =

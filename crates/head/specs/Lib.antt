@@ -1,4 +1,3 @@
-pub mod Reply
 pub mod Hear
 pub mod Moves
 pub mod Refusals

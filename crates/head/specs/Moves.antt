@@ -55,7 +55,14 @@ unfoldable pub measuredOf : Head → ℤ → Head
 measuredOf h m =
     withTargets (withMeasurement h (movedOf m (h .measurement))) (settledOf (h .stored .values) (movedOf m (h .measurement)) (h .targets))
 
--- the key of this weight, 1 left, 2 star, 4 up, is newly pressed
+-- the keys by their weights in a key state; the third, star with 2, does nothing
+abbrev pub leftKey : ℕ
+leftKey = 1
+
+abbrev pub upKey : ℕ
+upKey = 4
+
+-- the key of this weight is newly pressed
 unfoldable pub pressedOf : ℕ → ℕ → ℕ → Bool
 pressedOf keys before weight = eqb (keys / weight % 2) 1 && eqb (before / weight % 2) 0
 
@@ -76,4 +83,4 @@ upOf on h =
 
 -- left is taken before up
 unfoldable pub keyedOf : Head → ℕ → Head
-keyedOf h keys = upOf (pressedOf keys (h .keys) 4) (leftOf (pressedOf keys (h .keys) 1) (withKeys h keys))
+keyedOf h keys = upOf (pressedOf keys (h .keys) upKey) (leftOf (pressedOf keys (h .keys) leftKey) (withKeys h keys))

@@ -1,5 +1,4 @@
 // A byte heard: gathered, and with the tenth a telegram obeyed and answered.
-use crate::reply;
 use effects::aim;
 use effects::errors;
 use effects::measure;
@@ -15,7 +14,7 @@ use state::parts::Monitor;
 use state::status;
 ghost use mathlib.Core.Path.{_≡_};
 ghost use mathlib.Core.Bool.{Bool};
-ghost use Rattle.head.specs.Hear.{elapsedOf, keptEar, gatheredOf, standingOf, restartsOf, startedOf, toldOf, tellOf, stepOf};
+ghost use Rattle.head.specs.Hear.{elapsedOf, keptEar, gatheredOf, standingOf, restartsOf, startedOf, affectedOf, toldOf, passesOf, passedOf, tellOf, stepOf};
 
 // The time between two readings of a millisecond clock that starts again at 0 after 4,294,967,295.
 pub fn elapsed(now: u32, then: u32) -> u32
@@ -42,7 +41,7 @@ pub struct Gathered {
     pub ten: [u8; 10],
 }
 
-fn gather(ear: Ear, b: u8, at: u32) -> Gathered
+pub fn gather(ear: Ear, b: u8, at: u32) -> Gathered
     ensures { λ r. ⌜ r ≡ gatheredOf ear b at ⌝ }
 {
     let mut e = kept(ear, at);
@@ -100,9 +99,9 @@ fn started(sound: bool, at: u32, m: Monitor) -> Monitor
     m
 }
 
-// The head after a telegram that came whole at this time, with no byte gathered.
-fn told(j: Judged, h: Head, at: u32) -> Head
-    ensures { λ r. ⌜ r ≡ toldOf j h at ⌝ }
+// The head after the own effects of a telegram that came whole at this time.
+fn affected(j: Judged, h: Head, at: u32) -> Head
+    ensures { λ r. ⌜ r ≡ affectedOf j h at ⌝ }
 {
     let d = j.deed;
     let w = j.verdict;
@@ -111,20 +110,25 @@ fn told(j: Judged, h: Head, at: u32) -> Head
     let t = h.targets;
     let g = h.measurement;
     let f = errors::complained(w, errors::counted(j.sound, h.faults));
-    let again = restarts(d);
     let mut n = h;
     n.stored = store::stored_by(d, s);
     n.faults = errors::faults_by(d, t.word, f);
     n.measurement = measure::measurement_by(d, v, g);
     n.targets = aim::targets_by(d, v, g, t);
-    if again {
-        n.monitor = restart::stopped_monitor();
-        n.ear = restart::empty_ear(0);
-        n.keys = 0;
-        return n;
-    }
     n.monitor = started(j.sound, at, h.monitor);
     n.ear = restart::empty_ear(at);
+    n
+}
+
+// A0h 9 restarts the head after them.
+fn told(j: Judged, h: Head, at: u32) -> Head
+    ensures { λ r. ⌜ r ≡ toldOf j h at ⌝ }
+{
+    let d = j.deed;
+    let n = affected(j, h, at);
+    if restarts(d) {
+        return restart::restarted(n);
+    }
     n
 }
 
@@ -136,10 +140,38 @@ pub struct Stepped {
     pub reply: [u8; 10],
 }
 
-// A whole telegram. The reply and its status word are of the head before.
-fn tell(h: Head, ten: [u8; 10], at: u32) -> Stepped
+// Whether ten bytes are a sound telegram for another node.
+fn passes(ten: [u8; 10], number: u32) -> bool
+    ensures { λ r. ⌜ r ≡ passesOf ten number ⌝ }
+{
+    wire::check::sound(ten) & ((ten[0] != 2) & (ten[1] as u32 != number))
+}
+
+// The head after such a telegram.
+fn passed(h: Head, at: u32) -> Head
+    ensures { λ r. ⌜ r ≡ passedOf h at ⌝ }
+{
+    let mut n = h;
+    n.faults = errors::counted(true, h.faults);
+    n.monitor = started(true, at, h.monitor);
+    n.ear = restart::empty_ear(at);
+    n
+}
+
+// A whole telegram. The reply and its status word are of the head before. Most telegrams that a head hears are sound and for another node:
+// they go the short way.
+pub fn tell(h: Head, ten: [u8; 10], at: u32) -> Stepped
     ensures { λ r. ⌜ r ≡ tellOf h ten at ⌝ }
 {
+    let own = h.stored;
+    if passes(ten, own.number) {
+        let none = [0u8; 10];
+        return Stepped {
+            head: passed(h, at),
+            replied: false,
+            reply: none,
+        };
+    }
     let j = judged::judge(ten, standing(h));
     let s = reply::reply_to(j, h, status::status(h));
     let x = s.reply;

@@ -1,6 +1,5 @@
-// One head: what it answers to a telegram and does with it, byte by byte, and every call on a head.
+// One head: what it does with a byte and a telegram, with ticks, measurements and keys, and every call on it.
 pub mod calls;
 pub mod hear;
 pub mod moves;
 pub mod refusal;
-pub mod reply;

@@ -4,8 +4,8 @@ use effects::aim;
 use effects::errors;
 use effects::measure;
 use effects::restart;
-use state::parts::At;
 use state::parts::Head;
+use state::parts::Setting;
 use wire::fault::Fault;
 ghost use mathlib.Core.Path.{_≡_};
 ghost use mathlib.Core.Bool.{Bool};
@@ -26,7 +26,7 @@ pub fn ticked(h: Head, at: u32) -> Head
     let s = h.stored;
     let v = s.values;
     let m = h.monitor;
-    let late = overdue(v[At::TIMEOUT], hear::elapsed(at, m.since));
+    let late = overdue(v[Setting::TIMEOUT], hear::elapsed(at, m.since));
     if m.running & late {
         let mut n = h;
         n.faults = errors::raised(h.faults, Fault::TIMEOUT);
@@ -48,6 +48,11 @@ pub fn measured(h: Head, m: i32) -> Head
     n.targets = aim::settled(v, g, h.targets);
     n
 }
+
+// The keys by their weights in a key state; the third, star with 2, does nothing.
+const LEFT: u32 = 1;
+
+const UP: u32 = 4;
 
 // The key of this weight is down now and was not before.
 fn pressed(keys: u32, before: u32, weight: u32) -> bool
@@ -72,7 +77,7 @@ fn left(on: bool, h: Head) -> Head
             n.faults = e;
             return n;
         }
-        if v[At::CALIBRATION_KEY] == 1 {
+        if v[Setting::CALIBRATION_KEY] == 1 {
             n.measurement = measure::calibrated(v, h.measurement);
             return n;
         }
@@ -88,7 +93,7 @@ fn up(on: bool, h: Head) -> Head
     let s = h.stored;
     let v = s.values;
     let mut n = h;
-    if on & (v[At::INCREMENTAL_KEY] == 1) {
+    if on & (v[Setting::INCREMENTAL_KEY] == 1) {
         n.measurement = measure::switched(h.measurement);
         return n;
     }
@@ -102,5 +107,8 @@ pub fn keyed(h: Head, keys: u32) -> Head
     let before = h.keys;
     let mut n = h;
     n.keys = keys;
-    up(pressed(keys, before, 4), left(pressed(keys, before, 1), n))
+    up(
+        pressed(keys, before, UP),
+        left(pressed(keys, before, LEFT), n),
+    )
 }

@@ -1,20 +1,24 @@
 -- What holds of every verdict and every deed: who is answered, what is obeyed, what is stored.
 -- Assumes nothing.
-use mathlib.Core.Path.{_≡_, refl, sym}
-use mathlib.Core.Bool.{Bool, true, false, cond, not, _&&_, _||_, true≢false}
+use mathlib.Core.Path.{_≡_, refl, sym, _∙_, ap}
+use mathlib.Core.Bool.{Bool, true, false, cond, not, _&&_, _||_, and-assoc, and-eq-true-iff, true≢false}
 use mathlib.Core.List.{[], _∷_}
 use mathlib.Core.Logic.{_⊎_, inl, inr, ⊎-elim}
 use Prim.Native.Nat.{ℕ, _<_}
+use lib.Dec.{eqb, ltb}
 use types.Run.{OneOf, miss}
 use denote.Enum.Declared.{tagOf}
 use Rattle.wire.specs.declared.fault.Fault.{Fault}
 use Rattle.wire.specs.declared.fault.Fault.the-variants.{CheckSum}
 use Rattle.wire.specs.declared.telegram.Telegram.{Telegram}
+use Rattle.wire.specs.Word.{byte0}
+use Rattle.rows.specs.declared.access.Access.{Access}
 use Rattle.rows.specs.declared.range.Range.{Range}
 use Rattle.rows.specs.declared.range.Range.the-variants.{Right, Low, High, Between}
 use Rattle.rows.specs.Table.{rowOf}
 use Rattle.rows.specs.Kinds.{kindOf}
-use Rattle.rows.specs.Ranges.{rangeOf, fitsIn}
+use Rattle.rows.specs.Ranges.{rangeOf, isRight, fitsIn}
+use Rattle.rows.specs.Access.{accessOf, broadcastOf}
 use Rattle.rows.proofs.Laws.{place-below, range-fits}
 use Rattle.judge.specs.declared.command.Command.{Command}
 use Rattle.judge.specs.declared.command.Command.the-variants.{Read, Write, Broadcast, Other}
@@ -23,7 +27,7 @@ use Rattle.judge.specs.declared.verdict.Verdict.the-variants.{Obeyed, Si
 use Rattle.judge.specs.declared.verdict.Standing.{Standing}
 use Rattle.judge.specs.declared.deed.Deed.the-variants.{Store}
 use Rattle.judge.specs.Commands.{commandOf, castsOf, changesOf}
-use Rattle.judge.specs.Checks.{_else_, sumCheck, nodeCheck, rangeCheck, valueCheck, hushOf}
+use Rattle.judge.specs.Checks.{_else_, sumCheck, nodeCheck, commandCheck, parameterCheck, accessCheck, lockableOf, lockCheck, rangeCheck, valueCheck, numberCheck, hushOf}
 use Rattle.judge.specs.Verdicts.{lateOf, mineOf, verdictOf}
 use Rattle.judge.specs.Deeds.{deedOf}
 use Rattle.judge.proofs.verdict.Verdict.{the-type}
@@ -42,12 +46,6 @@ unfolding _else_
 else-decided Obeyed b h = absurd (miss (1 ∷ 2 ∷ []) 0 tt h)
 else-decided Silent b h = refl
 else-decided (Refused f) b h = refl
-
-else-obeyed : (a b : Verdict) → a else b ≡ Obeyed → (a ≡ Obeyed) × (b ≡ Obeyed)
-unfolding _else_
-else-obeyed Obeyed b h = (refl, h)
-else-obeyed Silent b h = (h, cc)
-else-obeyed (Refused f) b h = (h, cc)
 
 else-refused : (a b : Verdict) {f : Fault} → a else b ≡ Refused f → (a ≡ Refused f) ⊎ ((a ≡ Obeyed) × (b ≡ Refused f))
 unfolding _else_
@@ -82,66 +80,114 @@ unfolding verdictOf lateOf sumCheck
 refused-plain sound t s h =
     ⊎-elim (λ e. sum-refused sound _ e) (λ e. node-refused (commandOf (t .command)) (mineOf t s) _ (e .1)) (else-refused _ _ h)
 
-left-true : (a b : Bool) → (a && b) ≡ true → a ≡ true
-left-true true b h = refl
-left-true false b h = h
-
 pub refused-mine : (sound : Bool) (t : Telegram) (s : Standing) {f : Fault} → verdictOf sound t s ≡ Refused f → mineOf t s ≡ true
-refused-mine sound t s h = left-true _ _ (refused-plain sound t s h)
+refused-mine sound t s h = and-eq-true-iff (mineOf t s) _ .0 (refused-plain sound t s h) .0
 
 pub cast-never-refused : (sound : Bool) (t : Telegram) (s : Standing) (f : Fault) →
     commandOf (t .command) ≡ Broadcast → verdictOf sound t s ≡ Refused f → ⊥
 cast-never-refused sound t s f c h = true≢false (sym (rw (c, refused-mine sound t s h) at (refused-plain sound t s h)))
 
--- ---- an obeyed telegram is sound, for this head or a broadcast, and its value is right
-sum-obeyed : (sound b : Bool) → cond sound Obeyed (cond b (Refused CheckSum) Silent) ≡ Obeyed → sound ≡ true
-sum-obeyed true b h = refl
-sum-obeyed false true h = cc
-sum-obeyed false false h = cc
+-- ---- a telegram is obeyed where each check lets it pass
+abbrev pub isObeyed : Verdict → Bool
+isObeyed Obeyed = true
+isObeyed Silent = false
+isObeyed (Refused f) = false
 
-pub obeyed-sound : (sound : Bool) (t : Telegram) (s : Standing) → verdictOf sound t s ≡ Obeyed → sound ≡ true
-unfolding verdictOf sumCheck
-obeyed-sound sound t s h = sum-obeyed sound (mineOf t s && not (castsOf (commandOf (t .command)))) (else-obeyed _ _ h .0)
+else-is : (a b : Verdict) → isObeyed (a else b) ≡ isObeyed a && isObeyed b
+unfolding _else_
+else-is Obeyed b = refl
+else-is Silent b = refl
+else-is (Refused f) b = refl
 
-node-obeyed : (b : Bool) → cond b Obeyed Silent ≡ Obeyed → b ≡ true
-node-obeyed true h = refl
-node-obeyed false h = cc
+sum-is : (sound : Bool) (c : Command) (mine : Bool) → isObeyed (sumCheck sound c mine) ≡ sound
+unfolding sumCheck
+sum-is true c mine = refl
+sum-is false c mine = go (mine && not (castsOf c))
+  where
+    go : (b : Bool) → isObeyed (cond b (Refused CheckSum) Silent) ≡ false
+    go true = refl
+    go false = refl
 
-pub obeyed-mine : (sound : Bool) (t : Telegram) (s : Standing) →
-    verdictOf sound t s ≡ Obeyed → (castsOf (commandOf (t .command)) || mineOf t s) ≡ true
-unfolding verdictOf nodeCheck
-obeyed-mine sound t s h = node-obeyed _ (else-obeyed _ _ (else-obeyed _ _ h .1) .0)
+node-is : (c : Command) (mine : Bool) → isObeyed (nodeCheck c mine) ≡ castsOf c || mine
+unfolding nodeCheck
+node-is c mine = elim (castsOf c || mine) as (λ b. isObeyed (cond b Obeyed Silent) ≡ b) [ true ↦ refl | false ↦ refl ]
 
-hush-obeyed : (c : Command) (v : Verdict) → hushOf c v ≡ Obeyed → v ≡ Obeyed
+hush-is : (c : Command) (v : Verdict) → isObeyed (hushOf c v) ≡ isObeyed v
 unfolding hushOf
-hush-obeyed Read v h = h
-hush-obeyed Write v h = h
-hush-obeyed Broadcast Obeyed h = refl
-hush-obeyed Broadcast Silent h = cc
-hush-obeyed Broadcast (Refused f) h = cc
-hush-obeyed Other v h = h
+hush-is Read v = refl
+hush-is Write v = refl
+hush-is Broadcast Obeyed = refl
+hush-is Broadcast Silent = refl
+hush-is Broadcast (Refused f) = refl
+hush-is Other v = refl
 
-range-obeyed : (g : Range) → rangeCheck g ≡ Obeyed → g ≡ Right
+-- a check that refuses by one test
+test-is : (b : Bool) (f : Fault) → isObeyed (cond b (Refused f) Obeyed) ≡ not b
+test-is true f = refl
+test-is false f = refl
+
+value-is : (b : Bool) (g : Range) → isObeyed (cond b (rangeCheck g) Obeyed) ≡ not b || isRight g
 unfolding rangeCheck
-range-obeyed Right h = refl
-range-obeyed Low h = cc
-range-obeyed High h = cc
-range-obeyed Between h = cc
+value-is true Right = refl
+value-is true Low = refl
+value-is true High = refl
+value-is true Between = refl
+value-is false g = refl
 
-pub obeyed-range : (sound : Bool) (t : Telegram) (s : Standing) →
-    verdictOf sound t s ≡ Obeyed → changesOf (commandOf (t .command)) ≡ true → rangeOf (t .parameter) (t .value) ≡ Right
-unfolding verdictOf lateOf valueCheck
-obeyed-range sound t s h c =
-    let late = hush-obeyed (commandOf (t .command)) _ (else-obeyed _ _ (else-obeyed _ _ h .1) .1) in
-    let lock = else-obeyed _ _ (else-obeyed _ _ (else-obeyed _ _ late .1) .1) .1 in
-    let value = else-obeyed _ _ (else-obeyed _ _ lock .1) .0 in
-    range-obeyed _ (rw c at value)
+right-only : (g : Range) → isRight g ≡ true → g ≡ Right
+right-only Right h = refl
+right-only Low h = cc
+right-only High h = cc
+right-only Between h = cc
+
+-- the ordered checks, as one conjunction of their tests
+module _ (sound : Bool) (t : Telegram) (s : Standing) where
+  abbrev c : Command
+  c = commandOf (t .command)
+
+  abbrev group : Access
+  group = accessOf (t .parameter)
+
+  -- checks 3 to 5
+  abbrev allowed : Bool
+  allowed = isObeyed (commandCheck c) && (isObeyed (parameterCheck group) && isObeyed (accessCheck c group (broadcastOf (t .parameter))))
+
+  -- check 6, and the two of check 7
+  abbrev unlocked : Bool
+  unlocked = not (s .locked && (changesOf c && lockableOf (t .parameter)))
+
+  abbrev right : Bool
+  right = not (changesOf c) || isRight (rangeOf (t .parameter) (t .value))
+
+  abbrev counted : Bool
+  counted = not (eqb (t .parameter) 0x96 && ltb (s .inputs) (byte0 (t .value)))
+
+  pub obeyed-is : isObeyed (verdictOf sound t s) ≡ sound && ((castsOf c || mineOf t s) && (allowed && (unlocked && (right && counted))))
+  unfolding verdictOf lateOf lockCheck valueCheck numberCheck
+  obeyed-is = simp (else-is, sum-is, node-is, hush-is, value-is, test-is, and-assoc)
+
+  module _ (h : verdictOf sound t s ≡ Obeyed) where
+    tests : (sound ≡ true) × ((castsOf c || mineOf t s) ≡ true) × (right ≡ true)
+    tests =
+        let one = and-eq-true-iff sound _ .0 (sym obeyed-is ∙ ap isObeyed h) in
+        let two = and-eq-true-iff (castsOf c || mineOf t s) _ .0 (one .1) in
+        let six = and-eq-true-iff unlocked _ .0 (and-eq-true-iff allowed _ .0 (two .1) .1) in
+        (one .0, two .0, and-eq-true-iff right _ .0 (six .1) .0)
+
+    pub obeyed-sound : sound ≡ true
+    obeyed-sound = tests .0
+
+    pub obeyed-mine : (castsOf c || mineOf t s) ≡ true
+    obeyed-mine = tests .1
+
+    pub obeyed-range : changesOf c ≡ true → rangeOf (t .parameter) (t .value) ≡ Right
+    obeyed-range changes = right-only _ (rw changes at (tests .2))
 
 -- ---- what is stored lies in its row
 pub stored-fits : (sound : Bool) (t : Telegram) (s : Standing) {i w : ℕ} →
-    deedOf (verdictOf sound t s) (commandOf (t .command)) (kindOf (t .parameter)) (t .value) (t .word) ≡ Store i w →
+    deedOf (verdictOf sound t s) (commandOf (t .command)) (kindOf (t .parameter)) t ≡ Store i w →
     (i < 39) × (fitsIn (rowOf i) w ≡ true)
 stored-fits sound t s {i} {w} h =
-    let d = stored-by _ _ _ _ _ h in
+    let d = stored-by i w _ _ _ t h in
     let p = stored-place (t .parameter) (d .2) in
     (place-below (t .parameter) p, rw (d .3) at (range-fits (t .parameter) (t .value) p (obeyed-range sound t s (d .0) (d .1))))

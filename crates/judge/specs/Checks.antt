@@ -1,16 +1,16 @@
 -- The seven checks of a telegram's way through the head (document 01), one definition each.
 -- Assumes nothing.
 use Prim.Native.Nat.{ℕ}
-use mathlib.Core.Bool.{Bool, true, false, cond, not, _&&_, _||_}
-use lib.Dec.{ltb}
+use mathlib.Core.Bool.{Bool, cond, not, _&&_, _||_}
+use lib.Dec.{eqb, ltb}
 use Rattle.wire.specs.declared.fault.Fault.{Fault}
 use Rattle.wire.specs.declared.fault.Fault.the-variants.{CheckSum, Unlisted, Below, Above, UnknownParameter, NoAccess, WriteRefused, ReadRefused, Locked}
 use Rattle.rows.specs.declared.access.Access.{Access}
 use Rattle.rows.specs.declared.access.Access.the-variants.{ReadWrite, ReadOnly, WriteOnly, Unknown}
-use Rattle.rows.specs.declared.kind.Kind.{Kind}
-use Rattle.rows.specs.declared.kind.Kind.the-variants.{Stored, SetPoint1, SetPoint2, Identification, Version, ErrorCount, ErrorAt, InputErrors, StatusWord, Differential, Pending, Position, System, Calibration, Interlock, Freezing, Unassigned}
 use Rattle.rows.specs.declared.range.Range.{Range}
 use Rattle.rows.specs.declared.range.Range.the-variants.{Right, Low, High, Between}
+use Rattle.rows.specs.Among.{among}
+use Rattle.rows.specs.Access.{stored}
 use Rattle.judge.specs.declared.command.Command.{Command}
 use Rattle.judge.specs.declared.command.Command.the-variants.{Read, Write, Broadcast, Other}
 use Rattle.judge.specs.declared.verdict.Verdict.{Verdict}
@@ -57,27 +57,11 @@ unfoldable pub accessCheck : Command → Access → Bool → Verdict
 accessCheck c a castable = cond (castsOf c) (cond castable Obeyed Silent) (groupCheck c a)
 
 -- 6. locked, and the write or broadcast is to one of the 39 or A0h
-unfoldable pub lockableOf : Kind → Bool
-lockableOf (Stored i) = true
-lockableOf SetPoint1 = false
-lockableOf SetPoint2 = false
-lockableOf Identification = false
-lockableOf Version = false
-lockableOf ErrorCount = false
-lockableOf (ErrorAt i) = false
-lockableOf InputErrors = false
-lockableOf StatusWord = false
-lockableOf Differential = false
-lockableOf Pending = false
-lockableOf Position = false
-lockableOf System = true
-lockableOf Calibration = false
-lockableOf Interlock = false
-lockableOf Freezing = false
-lockableOf Unassigned = false
+unfoldable pub lockableOf : ℕ → Bool
+lockableOf a = among stored a || eqb a 0xA0
 
-unfoldable pub lockCheck : Bool → Command → Kind → Verdict
-lockCheck locked c k = cond (locked && (changesOf c && lockableOf k)) (Refused Locked) Obeyed
+unfoldable pub lockCheck : Bool → Command → ℕ → Verdict
+lockCheck locked c a = cond (locked && (changesOf c && lockableOf a)) (Refused Locked) Obeyed
 
 -- 7. value below low, above high, in between and not listed
 unfoldable pub rangeCheck : Range → Verdict
@@ -90,27 +74,8 @@ unfoldable pub valueCheck : Command → Range → Verdict
 valueCheck c g = cond (changesOf c) (rangeCheck g) Obeyed
 
 -- 7. for 96h a number above the count
-abbrev pub isInputErrors : Kind → Bool
-isInputErrors (Stored i) = false
-isInputErrors SetPoint1 = false
-isInputErrors SetPoint2 = false
-isInputErrors Identification = false
-isInputErrors Version = false
-isInputErrors ErrorCount = false
-isInputErrors (ErrorAt i) = false
-isInputErrors InputErrors = true
-isInputErrors StatusWord = false
-isInputErrors Differential = false
-isInputErrors Pending = false
-isInputErrors Position = false
-isInputErrors System = false
-isInputErrors Calibration = false
-isInputErrors Interlock = false
-isInputErrors Freezing = false
-isInputErrors Unassigned = false
-
-unfoldable pub numberCheck : Kind → ℕ → ℕ → Verdict
-numberCheck k number inputs = cond (isInputErrors k && ltb inputs number) (Refused Above) Obeyed
+unfoldable pub numberCheck : ℕ → ℕ → ℕ → Verdict
+numberCheck a number inputs = cond (eqb a 0x96 && ltb inputs number) (Refused Above) Obeyed
 
 -- a refused broadcast is silent
 abbrev quiet : Verdict → Verdict

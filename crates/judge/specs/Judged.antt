@@ -22,7 +22,7 @@ judgedAs t ten v =
       command = commandOf (t .command);
       kind = kindOf (t .parameter);
       verdict = v;
-      deed = deedOf v (commandOf (t .command)) (kindOf (t .parameter)) (t .value) (t .word);
+      deed = deedOf v (commandOf (t .command)) (kindOf (t .parameter)) t;
     }
 
 unfoldable pub judgedOf : List ℕ → Standing → Judged

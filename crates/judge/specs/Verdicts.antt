@@ -7,7 +7,6 @@ use lib.Dec.{eqb}
 use Rattle.wire.specs.declared.telegram.Telegram.{Telegram}
 use Rattle.wire.specs.Word.{byte0}
 use Rattle.rows.specs.Access.{accessOf, broadcastOf}
-use Rattle.rows.specs.Kinds.{kindOf}
 use Rattle.rows.specs.Ranges.{rangeOf}
 use Rattle.judge.specs.declared.command.Command.{Command}
 use Rattle.judge.specs.declared.verdict.Verdict.{Verdict}
@@ -22,9 +21,9 @@ lateOf t s =
     (commandCheck (commandOf (t .command))
     else parameterCheck (accessOf (t .parameter))
     else accessCheck (commandOf (t .command)) (accessOf (t .parameter)) (broadcastOf (t .parameter))
-    else lockCheck (s .locked) (commandOf (t .command)) (kindOf (t .parameter))
+    else lockCheck (s .locked) (commandOf (t .command)) (t .parameter)
     else valueCheck (commandOf (t .command)) (rangeOf (t .parameter) (t .value))
-    else numberCheck (kindOf (t .parameter)) (byte0 (t .value)) (s .inputs))
+    else numberCheck (t .parameter) (byte0 (t .value)) (s .inputs))
 
 -- the node byte is the number in force
 abbrev pub mineOf : Telegram → Standing → Bool

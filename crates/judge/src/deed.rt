@@ -3,8 +3,10 @@ use crate::command;
 use crate::command::Command;
 use crate::verdict::Verdict;
 use rows::kind::Kind;
+use rows::kind::Order;
+use wire::telegram::Telegram;
 ghost use mathlib.Core.Path.{_≡_};
-ghost use Rattle.judge.specs.Deeds.{systemOf, doneBy, shownBy, deedOf};
+ghost use Rattle.judge.specs.Deeds.{systemOf, orderedBy, doneBy, shownBy, deedOf};
 
 pub enum Deed {
     // Nothing: it was refused or not heard, or it only reads.
@@ -41,6 +43,18 @@ fn system(value: u32) -> Deed
     }
 }
 
+// A write only parameter.
+fn ordered_by(o: Order, value: u32) -> Deed
+    ensures { λ r. ⌜ r ≡ orderedBy o value ⌝ }
+{
+    match o {
+        Order::System => system(value),
+        Order::Calibration => Deed::Calibrate,
+        Order::Interlock => Deed::Unlock(value == 1),
+        Order::Freezing => Deed::Freeze,
+    }
+}
+
 // A write or a broadcast that is obeyed.
 fn done_by(k: Kind, value: u32, word: u16) -> Deed
     ensures { λ r. ⌜ r ≡ doneBy k value word ⌝ }
@@ -49,34 +63,32 @@ fn done_by(k: Kind, value: u32, word: u16) -> Deed
         Kind::Stored(i) => Deed::Store(i, value),
         Kind::SetPoint1 => Deed::Aim1(value, word),
         Kind::SetPoint2 => Deed::Aim2(value, word),
-        Kind::System => system(value),
-        Kind::Calibration => Deed::Calibrate,
-        Kind::Interlock => Deed::Unlock(value == 1),
-        Kind::Freezing => Deed::Freeze,
-        _ => Deed::Nothing,
+        Kind::ReadOnly(_) => Deed::Nothing,
+        Kind::WriteOnly(o) => ordered_by(o, value),
+        Kind::Unknown => Deed::Nothing,
     }
 }
 
 // A read that is obeyed.
-fn shown_by(k: Kind) -> Deed
-    ensures { λ r. ⌜ r ≡ shownBy k ⌝ }
+fn shown_by(address: u8) -> Deed
+    ensures { λ r. ⌜ r ≡ shownBy address ⌝ }
 {
-    match k {
-        Kind::StatusWord => Deed::ClearStatic,
-        Kind::Position => Deed::Release,
+    match address {
+        0xFA => Deed::ClearStatic,
+        0xFE => Deed::Release,
         _ => Deed::Nothing,
     }
 }
 
-pub fn deed_of(v: Verdict, c: Command, k: Kind, value: u32, word: u16) -> Deed
-    ensures { λ r. ⌜ r ≡ deedOf v c k value word ⌝ }
+pub fn deed_of(v: Verdict, c: Command, k: Kind, t: Telegram) -> Deed
+    ensures { λ r. ⌜ r ≡ deedOf v c k t ⌝ }
 {
     match v {
         Verdict::Obeyed => {
             if command::changes(c) {
-                return done_by(k, value, word);
+                return done_by(k, t.value, t.word);
             }
-            shown_by(k)
+            shown_by(t.parameter)
         }
         Verdict::Silent => Deed::Nothing,
         Verdict::Refused(_) => Deed::Nothing,

@@ -29,7 +29,7 @@ pub fn judge(ten: [u8; 10], s: Standing) -> Judged
     let c = command::command_of(t.command);
     let k = rows::kind::kind_of(t.parameter);
     let v = verdict::verdict_of(sound, t, s);
-    let d = deed::deed_of(v, c, k, t.value, t.word);
+    let d = deed::deed_of(v, c, k, t);
     Judged {
         telegram: t,
         sound: sound,

@@ -2,8 +2,9 @@
 use crate::command;
 use crate::command::Command;
 use rows::access::Access;
-use rows::kind::Kind;
 use rows::range::Range;
+use rows::table;
+use rows::table::Place;
 use wire::fault::Fault;
 use wire::telegram::Telegram;
 ghost use mathlib.Core.Path.{_≡_};
@@ -112,21 +113,20 @@ fn check_access(c: Command, a: Access, castable: bool) -> Verdict
 }
 
 // What the interlock covers: the 39 and A0h.
-fn lockable(k: Kind) -> bool
-    ensures { λ r. ⌜ r ≡ lockableOf k ⌝ }
+fn lockable(address: u8) -> bool
+    ensures { λ r. ⌜ r ≡ lockableOf address ⌝ }
 {
-    match k {
-        Kind::Stored(_) => true,
-        Kind::System => true,
-        _ => false,
+    match table::place_of(address) {
+        Place::At(_) => true,
+        Place::Nowhere => address == 0xA0,
     }
 }
 
 // 6. Locked.
-fn check_lock(locked: bool, c: Command, k: Kind) -> Verdict
-    ensures { λ r. ⌜ r ≡ lockCheck locked c k ⌝ }
+fn check_lock(locked: bool, c: Command, address: u8) -> Verdict
+    ensures { λ r. ⌜ r ≡ lockCheck locked c address ⌝ }
 {
-    if locked & (command::changes(c) & lockable(k)) {
+    if locked & (command::changes(c) & lockable(address)) {
         return Verdict::Refused(Fault::Locked);
     }
     Verdict::Obeyed
@@ -154,14 +154,11 @@ fn check_value(c: Command, g: Range) -> Verdict
 }
 
 // 7. For 96h, a number above the count.
-fn check_number(k: Kind, number: u8, inputs: u32) -> Verdict
-    ensures { λ r. ⌜ r ≡ numberCheck k number inputs ⌝ }
+fn check_number(address: u8, number: u8, inputs: u32) -> Verdict
+    ensures { λ r. ⌜ r ≡ numberCheck address number inputs ⌝ }
 {
-    if let Kind::InputErrors = k {
-        if inputs < number as u32 {
-            return Verdict::Refused(Fault::Above);
-        }
-        return Verdict::Obeyed;
+    if (address == 0x96) & (inputs < number as u32) {
+        return Verdict::Refused(Fault::Above);
     }
     Verdict::Obeyed
 }
@@ -186,13 +183,12 @@ fn late(t: Telegram, s: Standing) -> Verdict
 {
     let c = command::command_of(t.command);
     let a = rows::access::access_of(t.parameter);
-    let k = rows::kind::kind_of(t.parameter);
     let above = check_command(c);
     let known = check_parameter(a);
     let access = check_access(c, a, rows::access::broadcast(t.parameter));
-    let lock = check_lock(s.locked, c, k);
+    let lock = check_lock(s.locked, c, t.parameter);
     let value = check_value(c, rows::range::range_of(t.parameter, t.value));
-    let number = check_number(k, wire::word::first(t.value), s.inputs);
+    let number = check_number(t.parameter, wire::word::first(t.value), s.inputs);
     let last = first(lock, first(value, number));
     hush(c, first(above, first(known, first(access, last))))
 }

@@ -1,13 +1,14 @@
 -- Laws of the round that a byte and a tick make over the heads, and of a line that fits. None opens what a single head does.
 -- Assumes nothing.
 use Prim.Native.Nat.{ℕ, zero, suc, _+_, _<_, _≤_}
-use mathlib.Core.Path.{_≡_, refl, sym, _∙_}
-use mathlib.Core.Bool.{Bool, true, false, _&&_, and-true, and-assoc, and-eq-true-iff}
+use mathlib.Core.Path.{_≡_, refl, sym, ap, _∙_}
+use mathlib.Core.Logic.{_≢_}
+use mathlib.Core.Bool.{Bool, true, false, cond, _&&_, and-true, and-assoc, and-eq-true-iff}
 use mathlib.Core.List.{List, map, [], _∷_, _++_, append-assoc, append-nil}
 use native.Mathlib.Omega.{arith}
 use native.Mathlib.Numerals.{add-one}
 use native.Mathlib.Nat.{le-of-suc-le-suc, not-suc-le-zero}
-use borrow.Author.Tests.{le-ltb, lt-ltb, le-leb, lt-leb, leb-true}
+use borrow.Author.Tests.{le-ltb, lt-ltb, le-leb, lt-leb, leb-true, ne-eqb}
 use lib.Dec.{leb, ltb}
 use lib.ListN.{length, getD, set, replicate, length-append, length-map}
 use Rattle.state.specs.declared.parts.Head.{Head}
@@ -15,15 +16,13 @@ use Rattle.state.specs.Wellformed.{wellformedOf}
 use Rattle.head.specs.declared.hear.Stepped.{Stepped}
 use Rattle.head.specs.Hear.{stepOf}
 use Rattle.head.specs.declared.refusal.Refusal.{Refusal}
-use Rattle.head.specs.declared.refusal.Refusal.the-variants.{NoHead, Space, Malformed}
+use Rattle.head.specs.declared.refusal.Refusal.the-variants.{Space, Malformed}
 use Rattle.head.specs.declared.calls.Heard.the-variants as heard
-use Rattle.head.specs.Calls.{laidOn}
-use Rattle.line.specs.declared.round.Round.{Round}
+use Rattle.line.specs.declared.round.Replies.{Replies}
 use Rattle.line.specs.declared.calls.Line.{Line}
-use Rattle.line.specs.declared.calls.Called.{Called}
 use Rattle.line.specs.declared.calls.Fed.{Fed}
-use Rattle.line.specs.Round.{each, allFit, steppedBy, saidBy, repliesOf, lastOr, roundOf}
-use Rattle.line.specs.Calls.{refusedWith, fitsOf, forHead, repliesAt, laidBy, byteOf, byteSpaceOf}
+use Rattle.line.specs.Round.{each, allFit, steppedBy, saidBy, repliesOf, noReply, counted, laidFor}
+use Rattle.line.specs.Calls.{fitsOf, repliesAt, laidBy, byteOf, byteSpaceOf}
 
 -- f at the ith element, after f at the first i
 pub each-turn : {A : Type 0} (f : A → A) (d : A) (i : ℕ) (xs : List A) → i < length xs
@@ -76,6 +75,13 @@ fit-grown h n [] k e = refl
 fit-grown h zero (x ∷ xs) k e = and-eq-true-iff _ _ .1 (k, refl)
 fit-grown h (suc n) (x ∷ xs) k e = rest (wellformedOf x) _ _ (fit-grown h n xs k) e
 
+-- each of the first n is well-formed, and where there are fewer, what stands in for a missing one
+pub fit-at : (d : Head) → wellformedOf d ≡ true → (k n : ℕ) (hs : List Head) → k < n → allFit n hs ≡ true → wellformedOf (getD hs k d) ≡ true
+fit-at d w k zero hs p e = absurd (not-suc-le-zero p)
+fit-at d w k (suc n) [] p e = w
+fit-at d w zero (suc n) (h ∷ hs) p e = and-eq-true-iff (wellformedOf h) _ .0 e .0
+fit-at d w (suc k) (suc n) (h ∷ hs) p e = fit-at d w k n hs (le-of-suc-le-suc p) (and-eq-true-iff (wellformedOf h) _ .0 e .1)
+
 pub fit-turn : (d : Head) (i : ℕ) (hs : List Head) → i < length hs → allFit (suc i) hs ≡ (allFit i hs && wellformedOf (getD hs i d))
 fit-turn d i [] p = absurd (not-suc-le-zero p)
 fit-turn d zero (h ∷ hs) p = and-true _
@@ -87,44 +93,71 @@ replies-turn d i [] b at p = absurd (not-suc-le-zero p)
 replies-turn d zero (h ∷ hs) b at p = append-nil _
 replies-turn d (suc i) (h ∷ hs) b at p = rw (replies-turn d i hs b at (le-of-suc-le-suc p), append-assoc)
 
+-- no reply where no head gives one, and one where just head k does
+pub none-reply : (b at : ℕ) (d : Head) (n : ℕ) (hs : List Head) → ((j : ℕ) → j < n → stepOf (getD hs j d) b at .replied ≡ false) → repliesOf n hs b at ≡ []
+none-reply b at d zero hs q = refl
+none-reply b at d (suc n) [] q = refl
+none-reply b at d (suc n) (h ∷ hs) q = rw (q 0 (omega arith)) (none-reply b at d n hs (λ j p. q (suc j) (omega arith)))
+
+pub one-replies : (b at : ℕ) (d : Head) (k n : ℕ) (hs : List Head) → k < n → k < length hs → stepOf (getD hs k d) b at .replied ≡ true
+    → ((j : ℕ) → j < n → j ≢ k → stepOf (getD hs j d) b at .replied ≡ false) → repliesOf n hs b at ≡ stepOf (getD hs k d) b at .reply ∷ []
+one-replies b at d k zero hs p q y z = absurd (not-suc-le-zero p)
+one-replies b at d k (suc n) [] p q y z = absurd (not-suc-le-zero q)
+one-replies b at d zero (suc n) (h ∷ hs) p q y z = rw (y, none-reply b at d n hs (λ j i. z (suc j) (omega arith) (λ e. omega arith)))
+one-replies b at d (suc k) (suc n) (h ∷ hs) p q y z =
+    rw (z 0 (omega arith) (λ e. omega arith))
+    (one-replies b at d k n hs (le-of-suc-le-suc p) (le-of-suc-le-suc q) y (λ j i ne. z (suc j) (omega arith) (λ e. ne (omega arith))))
+
+abbrev lastOr : List ℕ → List (List ℕ) → List ℕ
+lastOr d [] = d
+lastOr d (r ∷ rs) = lastOr r rs
+
 last-snoc : (d r : List ℕ) (rs : List (List ℕ)) → lastOr d (rs ++ (r ∷ [])) ≡ r
 last-snoc d r [] = refl
 last-snoc d r (q ∷ rs) = last-snoc q r rs
 
--- a turn of the loop over the heads, where the head replies and where not
-module _ (d : Head) (i : ℕ) (hs : List Head) (b at : ℕ) (p : i < length hs) (r : Round) (e : r ≡ roundOf i hs b at)
-    (w : Bool) (f : w ≡ wellformedOf (getD (r .heads) i d)) (s : Stepped) (q : s ≡ stepOf (getD (r .heads) i d) b at) where
-  here : getD (r .heads) i d ≡ getD hs i d
-  unfolding roundOf
-  here = rw (e, each-ahead)
+-- replies counted one at a time are so many, and the last is the last
+abbrev tally : List (List ℕ) → Replies
+tally rs = record { count = length rs; last = lastOr (replicate 10 0) rs }
 
-  same : s ≡ stepOf (getD hs i d) b at
-  same = q ∙ rw here
+tally-more : (rs : List (List ℕ)) (replied : Bool) (reply : List ℕ)
+    → counted (tally rs) replied reply ≡ tally (rs ++ cond replied (reply ∷ []) [])
+tally-more rs true reply = rw (length-append, last-snoc)
+tally-more rs false reply = rw append-nil
 
-  heads-on : set (r .heads) i (s .head) ≡ roundOf (i + 1) hs b at .heads
-  unfolding roundOf
-  heads-on = rw (e, same, add-one i, each-turn (steppedBy b at) d i hs)
+-- a line k whose first i heads have heard what those of l hear, with their replies
+pub record Heard (b at : ℕ) (l : Line) (i : ℕ) (k : Line) (r : Replies) : Type 0 where
+  pub heads : k .heads ≡ each (steppedBy b at) i (l .heads)
+  pub count : k .count ≡ l .count
+  pub replies : r ≡ tally (repliesOf i (l .heads) b at)
 
-  ok-on : (r .ok && w) ≡ roundOf (i + 1) hs b at .ok
-  unfolding roundOf
-  ok-on = rw (f, here, e, add-one i, fit-turn d i hs p)
+-- before the first turn, and a turn of the loop over the heads
+pub unheard : (b at : ℕ) (l : Line) {r : Replies} → r ≡ noReply → Heard b at l 0 l r
+unheard b at l e = record { heads = refl; count = refl; replies = e }
 
-  pub said : s .replied ≡ true
-      → record { heads = set (r .heads) i (s .head); ok = r .ok && w; replies = r .replies + 1; reply = s .reply } ≡ roundOf (i + 1) hs b at
-  unfolding roundOf
-  said t =
-      let t′ : stepOf (getD hs i d) b at .replied ≡ true = rw same at t in
-      let n : r .replies + 1 ≡ length (repliesOf (i + 1) hs b at) = rw (e, add-one i, replies-turn d i hs b at p, t′, length-append) in
-      let l : s .reply ≡ lastOr (replicate 10 0) (repliesOf (i + 1) hs b at) = rw (same, add-one i, replies-turn d i hs b at p, t′, last-snoc) in
-      rw (heads-on, ok-on, n, l)
+module _ (b at : ℕ) (l : Line) (i : ℕ) (k : Line) (r : Replies) (t : Heard b at l i k r) (p : i < length (l .heads)) (d : Head) where
+  pub heard-turn : (s : Stepped) → s ≡ stepOf (getD (k .heads) i d) b at → (n : Line) → n ≡ record { heads = set (k .heads) i (s .head); count = k .count }
+      → (q : Replies) → q ≡ counted r (s .replied) (s .reply) → Heard b at l (i + 1) n q
+  heard-turn s e n en q eq =
+      let same : s ≡ stepOf (getD (l .heads) i d) b at = e ∙ rw (t .heads, each-ahead) in
+      let hs : set (k .heads) i (s .head) ≡ each (steppedBy b at) (i + 1) (l .heads) = rw (t .heads, same, add-one i, each-turn (steppedBy b at) d i (l .heads)) in
+      let rs : counted r (s .replied) (s .reply) ≡ tally (repliesOf (i + 1) (l .heads) b at) =
+      rw (t .replies, same, add-one i, replies-turn d i (l .heads) b at p)
+      (tally-more (repliesOf i (l .heads) b at) (stepOf (getD (l .heads) i d) b at .replied) (stepOf (getD (l .heads) i d) b at .reply)) in
+      record { heads = ap (λ (m : Line). m .heads) en ∙ hs; count = ap (λ (m : Line). m .count) en ∙ t .count; replies = eq ∙ rs }
 
-  pub quiet : s .replied ≡ false
-      → record { heads = set (r .heads) i (s .head); ok = r .ok && w; replies = r .replies; reply = r .reply } ≡ roundOf (i + 1) hs b at
-  unfolding roundOf
-  quiet t =
-      let t′ : stepOf (getD hs i d) b at .replied ≡ false = rw same at t in
-      let k : repliesOf (i + 1) hs b at ≡ repliesOf i hs b at = rw (add-one i, replies-turn d i hs b at p, t′, append-nil) in
-      rw (heads-on, ok-on, k, e)
+-- no head replies twice
+few : (n : ℕ) (hs : List Head) (b at : ℕ) → length (repliesOf n hs b at) ≤ n
+few zero hs b at = omega arith
+few (suc n) [] b at = omega arith
+few (suc n) (h ∷ hs) b at = rw (length-append (saidBy (stepOf h b at))) (omega (arith, few n hs b at, said-one (stepOf h b at .replied)))
+  where
+    said-one : (x : Bool) → length (cond x (stepOf h b at .reply ∷ []) []) ≤ 1
+    said-one true = omega arith
+    said-one false = omega arith
+
+pub heard-few : {b at : ℕ} {l : Line} {i : ℕ} {k : Line} {r : Replies} → Heard b at l i k r → r .count ≤ i
+heard-few {b} {at} {l} {i} t = rw (t .replies) (few i (l .heads) b at)
 
 -- a line that fits has at most eight heads
 pub fits-small : (l : Line) → fitsOf l ≡ true → l .count ≤ 8
@@ -144,6 +177,12 @@ pub fits-over : (l : Line) → 8 < l .count → fitsOf l ≡ false
 unfolding fitsOf
 fits-over l p = rw (lt-leb _ _ p)
 
+-- an element put back where it stood
+pub set-back : {A : Type 0} (d : A) (i : ℕ) (xs : List A) → set xs i (getD xs i d) ≡ xs
+set-back d i [] = refl
+set-back d zero (x ∷ xs) = refl
+set-back d (suc i) (x ∷ xs) = rw (set-back d i xs)
+
 -- what is known of an array in a struct speaks of its elements' parts: so many as these are the elements
 pub parts-long : {X Y : Type 0} (f : X → Y) (l : List X) (n : ℕ) → length (map f l) ≡ n → length l ≡ n
 parts-long f l n e = sym (length-map l f) ∙ e
@@ -154,18 +193,7 @@ getD-either d e i [] p = absurd (not-suc-le-zero p)
 getD-either d e zero (x ∷ xs) p = refl
 getD-either d e (suc i) (x ∷ xs) p = getD-either d e i xs (le-of-suc-le-suc p)
 
--- a call that names a head: refused as the line does not fit, refused as there is no such head, and let through
-module _ (l : Line) (i : ℕ) (x : Called) {v : Bool} (e : v ≡ fitsOf l) where
-  pub named-malformed : v ≡ false → refusedWith l Malformed ≡ forHead l i x
-  named-malformed f = rw (sym e ∙ f)
-
-  pub named-none : v ≡ true → {w : Bool} → w ≡ ltb i (l .count) → w ≡ false → refusedWith l NoHead ≡ forHead l i x
-  named-none f h p = rw (sym e ∙ f, sym h ∙ p)
-
-  pub named-there : v ≡ true → {w : Bool} → w ≡ ltb i (l .count) → w ≡ true → x ≡ forHead l i x
-  named-there f h p = rw (sym e ∙ f, sym h ∙ p)
-
--- a byte for a line: the two refusals, one reply, and none or more than one
+-- a byte for a line: the two refusals, and what is heard
 abbrev unfed : Line → Refusal → Fed
 unfed l why = record { line = l; heard = heard.Refused why }
 
@@ -174,45 +202,36 @@ malformed : (l : Line) (b at : ℕ) (s : List ℕ) → fitsOf l ≡ false
 unfolding byteOf byteSpaceOf
 malformed l b at s e = (rw e, rw e)
 
-one : (d : List ℕ) (rs : List (List ℕ)) → length rs ≡ 1 → rs ≡ lastOr d rs ∷ []
-one d [] e = absurd (omega arith)
-one d (r ∷ []) e = refl
-one d (r ∷ (q ∷ rs)) e = absurd (omega arith)
-
-not-one : (rs : List (List ℕ)) (s : List ℕ) → (length rs ≡ 1 → ⊥) → s ≡ laidBy rs s
+-- other than one reply, nothing is laid
+pub not-one : (rs : List (List ℕ)) (s : List ℕ) → (length rs ≡ 1 → ⊥) → s ≡ laidBy rs s
 not-one [] s n = refl
 not-one (r ∷ []) s n = absurd (n refl)
 not-one (r ∷ (q ∷ rs)) s n = refl
+
+-- what is laid goes by the replies alone
+laid-tally : (rs : List (List ℕ)) (s : List ℕ) → laidFor (tally rs) s ≡ laidBy rs s
+laid-tally [] s = refl
+laid-tally (r ∷ []) s = refl
+laid-tally (r ∷ (q ∷ rs)) s = rw (ne-eqb (suc (suc (length rs))) 1 (λ e. omega arith))
 
 module _ (l : Line) (b at : ℕ) (s : List ℕ) where
   pub byte-over : 8 < l .count → (unfed l Malformed ≡ byteOf l b at (length s)) × (s ≡ byteSpaceOf l b at s)
   byte-over p = malformed l b at s (fits-over l p)
 
-  module _ (p : l .count ≤ 8) (r : Round) (e : r ≡ roundOf (l .count) (l .heads) b at) where
-    -- what the round found of the heads says whether the line fits
-    found : fitsOf l ≡ r .ok
-    unfolding roundOf
-    found = fits-eight l p ∙ rw e
+  module _ (p : l .count ≤ 8) where
+    pub byte-malformed : allFit (l .count) (l .heads) ≡ false → (unfed l Malformed ≡ byteOf l b at (length s)) × (s ≡ byteSpaceOf l b at s)
+    byte-malformed f = malformed l b at s (fits-eight l p ∙ f)
 
-    abbrev fed : ℕ → Fed
-    fed n = record { line = record { heads = r .heads; count = l .count }; heard = heard.Replies n }
+    module _ (f : allFit (l .count) (l .heads) ≡ true) where
+      pub byte-short : length s < 10 → (unfed l Space ≡ byteOf l b at (length s)) × (s ≡ byteSpaceOf l b at s)
+      unfolding byteOf byteSpaceOf
+      byte-short q = let e = fits-eight l p ∙ f in (rw (e, lt-ltb _ _ q), rw (e, lt-ltb _ _ q))
 
-    pub byte-malformed : r .ok ≡ false → (unfed l Malformed ≡ byteOf l b at (length s)) × (s ≡ byteSpaceOf l b at s)
-    byte-malformed f = malformed l b at s (found ∙ f)
-
-    pub byte-short : r .ok ≡ true → length s < 10 → (unfed l Space ≡ byteOf l b at (length s)) × (s ≡ byteSpaceOf l b at s)
-    unfolding byteOf byteSpaceOf
-    byte-short f q = (rw (found ∙ f, lt-ltb _ _ q), rw (found ∙ f, lt-ltb _ _ q))
-
-    pub byte-one : r .ok ≡ true → 10 ≤ length s → r .replies ≡ 1
-        → (fed 1 ≡ byteOf l b at (length s)) × (laidOn s (r .reply) ≡ byteSpaceOf l b at s)
-    unfolding byteOf byteSpaceOf roundOf
-    byte-one f q o =
-        let n : length (repliesAt l b at) ≡ 1 = rw e at o in
-        (rw (found ∙ f, le-ltb _ _ q, e, n), rw (found ∙ f, le-ltb _ _ q, e) (rw (one (replicate 10 0) (repliesAt l b at) n)))
-
-    pub byte-others : r .ok ≡ true → 10 ≤ length s → (r .replies ≡ 1 → ⊥)
-        → (fed (r .replies) ≡ byteOf l b at (length s)) × (s ≡ byteSpaceOf l b at s)
-    unfolding byteOf byteSpaceOf roundOf
-    byte-others f q o =
-        (rw (found ∙ f, le-ltb _ _ q, e), rw (found ∙ f, le-ltb _ _ q) (not-one (repliesAt l b at) s (rw e at o)))
+      pub byte-heard : 10 ≤ length s → (k : Line) (r : Replies) → Heard b at l (l .count) k r
+          → (record { line = k; heard = heard.Replies (r .count) } ≡ byteOf l b at (length s)) × (laidFor r s ≡ byteSpaceOf l b at s)
+      unfolding byteOf byteSpaceOf
+      byte-heard q k r t =
+          let e = fits-eight l p ∙ f in (
+            rw (e, le-ltb _ _ q, ← t .heads, t .replies, t .count),
+            rw (e, le-ltb _ _ q, t .replies) (laid-tally (repliesAt l b at) s),
+          )

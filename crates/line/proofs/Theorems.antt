@@ -8,39 +8,32 @@ use mathlib.Core.Bool.{Bool, true, false, cond, not}
 use mathlib.Core.List.{List, [], _∷_}
 use native.Mathlib.Omega.{arith}
 use native.Mathlib.Numerals.{add-one}
-use borrow.Author.Tests.{ltb-true, lt-ltb, le-ltb, le-leb}
-use lib.Dec.{leb, ltb}
-use lib.IntN.{ℤ}
+use borrow.Author.Tests.{ltb-true, lt-ltb, le-ltb}
+use lib.Dec.{ltb}
 use lib.ListN.{length, set, length-set}
 use lib.Seq.{getD-set-same, getD-set-other}
 use Rattle.state.specs.declared.parts.Head.{Head}
-use Rattle.state.specs.Wellformed.{inReachOf, wellformedOf}
-use Rattle.effects.specs.Restart.{restartedOf, freshOf}
+use Rattle.state.specs.Wellformed.{wellformedOf}
+use Rattle.effects.specs.Restart.{freshOf}
 use Rattle.head.specs.declared.refusal.Refusal.{Refusal}
-use Rattle.head.specs.declared.refusal.Refusal.the-variants.{Node, Full, NoHead, OutOfReach, Keys, Space, Malformed}
+use Rattle.head.specs.declared.refusal.Refusal.the-variants.{Node, Full, Space, Malformed}
 use Rattle.head.specs.declared.calls.Answer.the-variants as answer
+use Rattle.head.specs.declared.calls.Called as alone
 use Rattle.head.specs.declared.calls.Heard.the-variants as heard
 use Rattle.head.specs.Hear.{stepOf}
-use Rattle.head.specs.Moves.{tickedOf, measuredOf, keyedOf}
-use Rattle.head.specs.Calls.{factoryOf, nodeFits}
-use Rattle.head.proofs.Keeps.{fresh-fits, step-fits, tick-fits, measure-fits, keys-fits, restart-fits}
+use Rattle.head.specs.Moves.{tickedOf}
+use Rattle.head.specs.Calls.{Tests, guarded, factoryOf, nodeFits}
+use Rattle.head.proofs.Tests.{Hold, either}
+use Rattle.head.proofs.Keeps.{fresh-fits, factory-fits, step-fits, tick-fits}
 use Rattle.line.specs.declared.calls.Line.{Line}
 use Rattle.line.specs.declared.calls.Called.{Called}
 use Rattle.line.specs.declared.calls.Fed.{Fed}
 use Rattle.line.specs.Round.{each, allFit, steppedBy, tickedAt}
 use Rattle.line.specs.Calls.{emptyOf, fitsOf, doneWith, refusedWith, headAt, placedOf, grownBy, growOf}
-use Rattle.line.specs.Calls.{repliesAt, heardBy, byteOf, laidBy, byteSpaceOf, tickOf, measureOf, keysOf, powerOf}
-use Rattle.line.proofs.Laws.{each-here, each-length, fit-each, fit-set, fit-grown, fits-small, fits-heads, fits-eight}
+use Rattle.line.specs.Calls.{repliesAt, heardBy, byteOf, laidBy, byteSpaceOf, tickOf, putBack, namedTests, namedOf}
+use Rattle.line.proofs.Laws.{each-here, each-length, fit-each, fit-set, fit-grown, fits-small, fits-heads, fits-eight, fit-at, set-back}
 
--- ---- which refusal, exactly when
--- Tests in their order, each with the reason to refuse where it fails. The first that fails refuses; where none fails the call is done.
-abbrev pub Tests : Type 0
-Tests = List (Bool × Refusal)
-
-abbrev pub guarded : {C : Type 0} → (Refusal → C) → Tests → C → C
-guarded refuse [] done = done
-guarded refuse (t ∷ ts) done = cond (t .0) (guarded refuse ts done) (refuse (t .1))
-
+-- ---- which refusal, exactly when: the tests of each call in their order
 abbrev pub growTests : Line → ℕ → Tests
 growTests l node = (fitsOf l, Malformed) ∷ (ltb (l .count) 8, Full) ∷ (nodeFits node, Node) ∷ []
 
@@ -49,15 +42,6 @@ byteTests l room = (fitsOf l, Malformed) ∷ (not (ltb room 10), Space) ∷ []
 
 abbrev pub tickTests : Line → Tests
 tickTests l = (fitsOf l, Malformed) ∷ []
-
-abbrev pub measureTests : Line → ℕ → ℤ → Tests
-measureTests l i m = (fitsOf l, Malformed) ∷ (ltb i (l .count), NoHead) ∷ (inReachOf m, OutOfReach) ∷ []
-
-abbrev pub keysTests : Line → ℕ → ℕ → Tests
-keysTests l i state = (fitsOf l, Malformed) ∷ (ltb i (l .count), NoHead) ∷ (leb state 7, Keys) ∷ []
-
-abbrev pub powerTests : Line → ℕ → Tests
-powerTests l i = (fitsOf l, Malformed) ∷ (ltb i (l .count), NoHead) ∷ []
 
 abbrev pub unfed : Line → Refusal → Fed
 unfed l why = record { line = l; heard = heard.Refused why }
@@ -89,30 +73,9 @@ module _ (l : Line) where
   unfolding tickOf
   tick-when at = refl
 
-  pub measure-when : (i : ℕ) (m : ℤ)
-      → measureOf l i m ≡ guarded (refusedWith l) (measureTests l i m) (doneWith (placedOf l i (measuredOf (headAt l i) m)))
-  unfolding measureOf
-  measure-when i m = refl
-
-  pub keys-when : (i state : ℕ)
-      → keysOf l i state ≡ guarded (refusedWith l) (keysTests l i state) (doneWith (placedOf l i (keyedOf (headAt l i) state)))
-  unfolding keysOf
-  keys-when i state = refl
-
-  pub power-when : (i : ℕ) → powerOf l i ≡ guarded (refusedWith l) (powerTests l i) (doneWith (placedOf l i (restartedOf (headAt l i))))
-  unfolding powerOf
-  power-when i = refl
-
--- what holds where a call is refused, and where it is done as all tests hold, holds of the call
-abbrev Hold : Tests → Type 0
-Hold [] = Unit
-Hold (t ∷ ts) = (t .0 ≡ true) × Hold ts
-
-either : {C : Type 0} (P : C → Type 0) (f : Refusal → C) (x : C) (ts : Tests)
-    → ((why : Refusal) → P (f why)) → (Hold ts → P x) → P (guarded f ts x)
-either P f x [] r d = d tt
-either P f x ((true, why) ∷ ts) r d = either P f x ts r (λ h. d (refl, h))
-either P f x ((false, why) ∷ ts) r d = r why
+  pub named-when : (i : ℕ) (c : alone.Called) → namedOf l i c ≡ guarded (refusedWith l) (namedTests l i) (putBack l i c)
+  unfolding namedOf
+  named-when i c = refl
 
 -- ---- a refused call leaves the line as it was
 abbrev pub Untouched : Line → Called → Type 0
@@ -129,14 +92,13 @@ module _ (l : Line) where
   pub tick-refused : (at : ℕ) → Untouched l (tickOf l at)
   tick-refused at = rw (tick-when l at) (untouched (tickTests l) _)
 
-  pub measure-refused : (i : ℕ) (m : ℤ) → Untouched l (measureOf l i m)
-  measure-refused i m = rw (measure-when l i m) (untouched (measureTests l i m) _)
-
-  pub keys-refused : (i state : ℕ) → Untouched l (keysOf l i state)
-  keys-refused i state = rw (keys-when l i state) (untouched (keysTests l i state) _)
-
-  pub power-refused : (i : ℕ) → Untouched l (powerOf l i)
-  power-refused i = rw (power-when l i) (untouched (powerTests l i) _)
+  -- where the call on the head alone leaves a refused head as it was
+  pub named-refused : (i : ℕ) (c : alone.Called) → ((why : Refusal) → c .answer ≡ answer.Refused why → c .head ≡ headAt l i) → Untouched l (namedOf l i c)
+  unfolding placedOf
+  named-refused i c k =
+      rw (named-when l i c)
+      (either (Untouched l) (refusedWith l) (putBack l i c) (namedTests l i) (λ w why e. refl)
+      (λ h why e. rw (k why e, set-back factoryOf i (l .heads))))
 
   -- and a refused byte the space too
   pub byte-refused : (b at : ℕ) (space : List ℕ) (why : Refusal) → byteOf l b at (length space) .heard ≡ heard.Refused why
@@ -154,21 +116,12 @@ module _ (l : Line) where
 abbrev pub OnlyAt : Line → ℕ → Line → Type 0
 OnlyAt l i k = (k .count ≡ l .count) × ((j : ℕ) → j ≢ i → headAt k j ≡ headAt l j)
 
-module _ (l : Line) (i : ℕ) where
-  only : (ts : Tests) (h : Head) → OnlyAt l i (guarded (refusedWith l) ts (doneWith (placedOf l i h)) .line)
-  unfolding placedOf
-  only ts h =
-      either (λ c. OnlyAt l i (c .line)) (refusedWith l) (doneWith (placedOf l i h)) ts (λ why. (refl, λ j n. refl))
-      (λ _. (refl, λ j n. getD-set-other (l .heads) i j h factoryOf n))
-
-  pub measure-one : (m : ℤ) → OnlyAt l i (measureOf l i m .line)
-  measure-one m = rw (measure-when l i m) (only (measureTests l i m) _)
-
-  pub keys-one : (state : ℕ) → OnlyAt l i (keysOf l i state .line)
-  keys-one state = rw (keys-when l i state) (only (keysTests l i state) _)
-
-  pub power-one : OnlyAt l i (powerOf l i .line)
-  power-one = rw (power-when l i) (only (powerTests l i) _)
+pub named-one : (l : Line) (i : ℕ) (c : alone.Called) → OnlyAt l i (namedOf l i c .line)
+unfolding placedOf
+named-one l i c =
+    rw (named-when l i c)
+    (either (λ (x : Called). OnlyAt l i (x .line)) (refusedWith l) (putBack l i c) (namedTests l i) (λ why. (refl, λ j n. refl))
+    (λ h. (refl, λ j n. getD-set-other (l .heads) i j (c .head) factoryOf n)))
 
 -- a new head changes no other
 pub grow-others : (l : Line) (node j : ℕ) → j ≢ l .count → headAt (growOf l node .line) j ≡ headAt l j
@@ -176,6 +129,10 @@ grow-others l node j n =
     rw (grow-when l node)
     (either (λ c. headAt (c .line) j ≡ headAt l j) (refusedWith l) _ (growTests l node) (λ why. refl)
     (λ _. getD-set-other (l .heads) (l .count) j (freshOf node) factoryOf n))
+
+-- ---- a head below the count of a line that fits is well-formed
+pub well-at : (l : Line) → fitsOf l ≡ true → (i : ℕ) → i < l .count → wellformedOf (headAt l i) ≡ true
+well-at l f i p = fit-at factoryOf factory-fits i (l .count) (l .heads) p (fits-heads l f)
 
 -- ---- where a call is done, each head that it reaches becomes what the call makes of that head alone
 module _ (l : Line) (f : fitsOf l ≡ true) (e : length (l .heads) ≡ 8) where
@@ -190,17 +147,9 @@ module _ (l : Line) (f : fitsOf l ≡ true) (e : length (l .heads) ≡ 8) where
       (rw (f, lt-ltb _ _ p, n), rw (f, lt-ltb _ _ p, n) (getD-set-same (l .heads) (l .count) (freshOf node) factoryOf q))
 
   module _ (i : ℕ) (p : i < l .count) where
-    pub measure-there : (m : ℤ) → inReachOf m ≡ true → headAt (measureOf l i m .line) i ≡ measuredOf (headAt l i) m
-    unfolding measureOf placedOf
-    measure-there m r = rw (f, lt-ltb _ _ p, r) (getD-set-same (l .heads) i _ factoryOf (here i p))
-
-    pub keys-there : (state : ℕ) → state ≤ 7 → headAt (keysOf l i state .line) i ≡ keyedOf (headAt l i) state
-    unfolding keysOf placedOf
-    keys-there state r = rw (f, lt-ltb _ _ p, le-leb _ _ r) (getD-set-same (l .heads) i _ factoryOf (here i p))
-
-    pub power-there : headAt (powerOf l i .line) i ≡ restartedOf (headAt l i)
-    unfolding powerOf placedOf
-    power-there = rw (f, lt-ltb _ _ p) (getD-set-same (l .heads) i _ factoryOf (here i p))
+    pub named-there : (c : alone.Called) → (namedOf l i c .answer ≡ c .answer) × (headAt (namedOf l i c .line) i ≡ c .head)
+    unfolding namedOf placedOf
+    named-there c = (rw (f, lt-ltb _ _ p), rw (f, lt-ltb _ _ p) (getD-set-same (l .heads) i (c .head) factoryOf (here i p)))
 
     pub tick-alone : (at : ℕ) → headAt (tickOf l at .line) i ≡ tickedOf (headAt l i) at
     unfolding tickOf
@@ -268,15 +217,9 @@ module _ (l : Line) where
   tick-keeps at =
       rw (tick-when l at) (kept (tickTests l) (tickedBy l at) (λ h. each-kept (tickedAt at) (λ x. tick-fits x at)))
 
-  pub measure-keeps : (i : ℕ) (m : ℤ) → Kept l (measureOf l i m .line)
-  measure-keeps i m =
-      rw (measure-when l i m)
-      (kept (measureTests l i m) _ (λ h. placed-kept i _ (h .1 .0) (measure-fits (headAt l i) m (h .1 .1 .0))))
-
-  pub keys-keeps : (i state : ℕ) → Kept l (keysOf l i state .line)
-  keys-keeps i state =
-      rw (keys-when l i state)
-      (kept (keysTests l i state) _ (λ h. placed-kept i _ (h .1 .0) (keys-fits (headAt l i) state (h .1 .1 .0))))
-
-  pub power-keeps : (i : ℕ) → Kept l (powerOf l i .line)
-  power-keeps i = rw (power-when l i) (kept (powerTests l i) _ (λ h. placed-kept i _ (h .1 .0) (restart-fits (headAt l i))))
+  -- where the call on the head alone keeps it well-formed
+  pub named-keeps : (i : ℕ) (c : alone.Called) → (wellformedOf (headAt l i) ≡ true → wellformedOf (c .head) ≡ true) → Kept l (namedOf l i c .line)
+  named-keeps i c k =
+      rw (named-when l i c)
+      (either (λ (x : Called). Kept l (x .line)) (refusedWith l) (putBack l i c) (namedTests l i) (λ why. (λ f. f, refl))
+      (λ h. placed-kept i (c .head) (h .1 .0) k))

@@ -7,14 +7,14 @@ use lib.Dec.{leb, ltb}
 use lib.IntN.{ℤ}
 use lib.ListN.{length, getD, set, replicate}
 use Rattle.state.specs.declared.parts.Head.{Head}
-use Rattle.state.specs.Wellformed.{inReachOf}
-use Rattle.effects.specs.Restart.{restartedOf, freshOf}
+use Rattle.effects.specs.Restart.{freshOf}
 use Rattle.head.specs.declared.refusal.Refusal.{Refusal}
-use Rattle.head.specs.declared.refusal.Refusal.the-variants.{Node, Full, NoHead, OutOfReach, Keys, Space, Malformed}
+use Rattle.head.specs.declared.refusal.Refusal.the-variants.{Node, Full, NoHead, Space, Malformed}
 use Rattle.head.specs.declared.calls.Answer.the-variants as answer
 use Rattle.head.specs.declared.calls.Heard.the-variants as heard
-use Rattle.head.specs.Moves.{measuredOf, keyedOf}
-use Rattle.head.specs.Calls.{factoryOf, nodeFits, laidOn}
+use Rattle.head.specs.declared.calls.Called as alone
+use Rattle.head.specs.Calls as head
+use Rattle.head.specs.Calls.{Tests, guarded, factoryOf, nodeFits, laidOn}
 use Rattle.line.specs.declared.calls.Line.{Line}
 use Rattle.line.specs.declared.calls.Called.{Called}
 use Rattle.line.specs.declared.calls.Fed.{Fed}
@@ -81,17 +81,22 @@ unfoldable pub tickOf : Line → ℕ → Called
 tickOf l at =
     cond (fitsOf l) (doneWith (record { heads = each (tickedAt at) (l .count) (l .heads); count = l .count })) (refusedWith l Malformed)
 
--- refusal 3: the head number is not below the count; then 4 and 5
-abbrev pub forHead : Line → ℕ → Called → Called
-forHead l i c = cond (fitsOf l) (cond (ltb i (l .count)) c (refusedWith l NoHead)) (refusedWith l Malformed)
+-- a call that names a head: 20, then 3 for a head number not below the count; then it is the call on that head alone, c, with its own refusals
+-- and its answer. That head becomes what it becomes alone, and no other changes
+abbrev pub putBack : Line → ℕ → alone.Called → Called
+putBack l i c = record { line = placedOf l i (c .head); answer = c .answer }
+
+abbrev pub namedTests : Line → ℕ → Tests
+namedTests l i = (fitsOf l, Malformed) ∷ (ltb i (l .count), NoHead) ∷ []
+
+unfoldable pub namedOf : Line → ℕ → alone.Called → Called
+namedOf l i c = guarded (refusedWith l) (namedTests l i) (putBack l i c)
 
 unfoldable pub measureOf : Line → ℕ → ℤ → Called
-measureOf l i m =
-    forHead l i (cond (inReachOf m) (doneWith (placedOf l i (measuredOf (headAt l i) m))) (refusedWith l OutOfReach))
+measureOf l i m = namedOf l i (head.measureOf (headAt l i) m)
 
 unfoldable pub keysOf : Line → ℕ → ℕ → Called
-keysOf l i state =
-    forHead l i (cond (leb state 7) (doneWith (placedOf l i (keyedOf (headAt l i) state))) (refusedWith l Keys))
+keysOf l i state = namedOf l i (head.keysOf (headAt l i) state)
 
 unfoldable pub powerOf : Line → ℕ → Called
-powerOf l i = forHead l i (doneWith (placedOf l i (restartedOf (headAt l i))))
+powerOf l i = namedOf l i (head.powerOf (headAt l i))

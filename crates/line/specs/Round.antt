@@ -1,16 +1,18 @@
 -- What the heads of a line do with a byte and with a tick (document 01, "The line, and calls refused"): both reach every head, and each
 -- does what it does alone. Heads do not hear replies.
 -- Assumes nothing.
-use Prim.Native.Nat.{ℕ, zero, suc}
+use Prim.Native.Nat.{ℕ, zero, suc, _+_}
 use mathlib.Core.Bool.{Bool, true, cond, _&&_}
 use mathlib.Core.List.{List, [], _∷_, _++_}
-use lib.ListN.{length, replicate}
+use lib.Dec.{eqb}
+use lib.ListN.{replicate}
 use Rattle.state.specs.declared.parts.Head.{Head}
 use Rattle.state.specs.Wellformed.{wellformedOf}
 use Rattle.head.specs.declared.hear.Stepped.{Stepped}
 use Rattle.head.specs.Hear.{stepOf}
 use Rattle.head.specs.Moves.{tickedOf}
-use Rattle.line.specs.declared.round.Round.{Round}
+use Rattle.head.specs.Calls.{laidOn}
+use Rattle.line.specs.declared.round.Replies.{Replies}
 
 -- f at the first n elements
 abbrev pub each : {A : Type 0} → (A → A) → ℕ → List A → List A
@@ -41,15 +43,13 @@ repliesOf zero hs b at = []
 repliesOf (suc n) [] b at = []
 repliesOf (suc n) (h ∷ hs) b at = saidBy (stepOf h b at) ++ repliesOf n hs b at
 
-abbrev pub lastOr : List ℕ → List (List ℕ) → List ℕ
-lastOr d [] = d
-lastOr d (r ∷ rs) = lastOr r rs
+-- the replies counted one head at a time, with the last of them
+abbrev pub noReply : Replies
+noReply = record { count = 0; last = replicate 10 0 }
 
-unfoldable pub roundOf : ℕ → List Head → ℕ → ℕ → Round
-roundOf n hs b at =
-    record {
-      heads = each (steppedBy b at) n hs;
-      ok = allFit n hs;
-      replies = length (repliesOf n hs b at);
-      reply = lastOr (replicate 10 0) (repliesOf n hs b at);
-    }
+abbrev pub counted : Replies → Bool → List ℕ → Replies
+counted r replied reply = cond replied (record { count = r .count + 1; last = reply }) r
+
+-- just one reply is laid
+abbrev pub laidFor : Replies → List ℕ → List ℕ
+laidFor r space = cond (eqb (r .count) 1) (laidOn space (r .last)) space

@@ -4,15 +4,15 @@ use effects::restart;
 use head::calls;
 use head::calls::Answer;
 use head::calls::Heard;
+use head::hear;
 use head::moves;
 use head::refusal::Refusal;
 use state::parts::Head;
 use state::wellformed;
 ghost use mathlib.Core.Path.{_≡_};
 ghost use mathlib.Core.Bool.{Bool};
-ghost use lib.Dec.{ltb};
 ghost use lib.ListN.{length};
-ghost use Rattle.line.specs.Calls.{emptyOf, fitsOf, doneWith, refusedWith, headAt, placedOf, growOf, byteOf, byteSpaceOf, tickOf, measureOf, keysOf, powerOf};
+ghost use Rattle.line.specs.Calls.{emptyOf, fitsOf, doneWith, refusedWith, headAt, placedOf, growOf, byteOf, byteSpaceOf, tickOf, namedOf, measureOf, keysOf, powerOf};
 
 // Eight places for heads, of which the first `count` are on the wire.
 #[repr(C)]
@@ -57,8 +57,14 @@ pub fn fits(l: Line) -> bool
 {
     let n = l.count;
     if n <= 8 {
-        let hs = l.heads;
-        return round::all_fit(hs, n);
+        let mut ok = true;
+        let mut i: usize = 0;
+        while i < n {
+            let h = l.heads[i];
+            ok = ok & wellformed::wellformed(h);
+            i += 1;
+        }
+        return ok;
     }
     false
 }
@@ -79,13 +85,6 @@ fn refused(l: Line, why: Refusal) -> Called
         line: l,
         answer: Answer::Refused(why),
     }
-}
-
-// Whether there is a head with this number.
-fn has(l: Line, i: usize) -> bool
-    ensures { λ r. ⌜ r ≡ ltb i (l .count) ⌝ }
-{
-    i < l.count
 }
 
 // The head at a place; at no place, the factory head.
@@ -128,47 +127,55 @@ pub fn grow(l: Line, node: u32) -> Called
     refused(l, Refusal::Malformed)
 }
 
-// A byte for every head, with lent reply space.
+// A byte for every head, with lent reply space. The line is copied once, into `k`, and leaves by one exit; each arm of a turn reads and writes
+// its head in place, so that a byte that ends no telegram, as nine of ten do, writes the bytes gathered and nothing else.
 pub fn byte(l: Line, b: u8, at: u32, space: &mut [u8]) -> Fed
     ensures { λ r. ⌜ r ≡ byteOf l b at (length (now (space .entry))) ⌝ }
     ensures { λ r. ⌜ now (space .exit) ≡ byteSpaceOf l b at (now (space .entry)) ⌝ }
 {
     let mut k = l;
     let n = l.count;
+    let mut heard = Heard::Refused(Refusal::Malformed);
     if n <= 8 {
-        let hs = l.heads;
-        let r = round::go_round(hs, n, b, at);
-        if r.ok {
-            if space.len() < 10 {
-                return Fed {
-                    line: k,
-                    heard: Heard::Refused(Refusal::Space),
-                };
-            }
-            let heads = r.heads;
-            k.heads = heads;
-            let replies = r.replies;
-            if replies == 1 {
-                let x = r.reply;
-                calls::lay(space, x);
-                return Fed {
-                    line: k,
-                    heard: Heard::Replies(1),
-                };
-            }
-            return Fed {
-                line: k,
-                heard: Heard::Replies(replies),
-            };
+        let mut ok = true;
+        let mut i: usize = 0;
+        while i < n {
+            let h = k.heads[i];
+            ok = ok & wellformed::wellformed(h);
+            i += 1;
         }
-        return Fed {
-            line: k,
-            heard: Heard::Refused(Refusal::Malformed),
-        };
+        if ok {
+            if space.len() < 10 {
+                heard = Heard::Refused(Refusal::Space);
+            } else {
+                let mut replies = round::none();
+                i = 0;
+                while i < n {
+                    let h = k.heads[i];
+                    let g = hear::gather(h.ear, b, at);
+                    if g.whole {
+                        let ten = g.ten;
+                        let s = hear::tell(k.heads[i], ten, at);
+                        let said = s.reply;
+                        replies = round::count(replies, s.replied, said);
+                        let next = s.head;
+                        k.heads[i] = next;
+                    } else {
+                        let e = g.ear;
+                        let mut next = k.heads[i];
+                        next.ear = e;
+                        k.heads[i] = next;
+                    }
+                    i += 1;
+                }
+                round::lay(space, replies);
+                heard = Heard::Replies(replies.count);
+            }
+        }
     }
     Fed {
         line: k,
-        heard: Heard::Refused(Refusal::Malformed),
+        heard: heard,
     }
 }
 
@@ -178,10 +185,31 @@ pub fn tick(l: Line, at: u32) -> Called
 {
     if fits(l) {
         let mut k = l;
-        let hs = l.heads;
-        let heads = round::tick_all(hs, l.count, at);
-        k.heads = heads;
+        let n = l.count;
+        let mut i: usize = 0;
+        while i < n {
+            let next = moves::ticked(k.heads[i], at);
+            k.heads[i] = next;
+            i += 1;
+        }
         return done(k);
+    }
+    refused(l, Refusal::Malformed)
+}
+
+// A call that names a head: 20, then 3, then what the call made of that head alone, put back in its place, with its answer.
+fn named(l: Line, i: usize, c: calls::Called) -> Called
+    ensures { λ r. ⌜ r ≡ namedOf l i c ⌝ }
+{
+    if fits(l) {
+        if i < l.count {
+            let a = c.answer;
+            return Called {
+                line: placed(l, i, c.head),
+                answer: a,
+            };
+        }
+        return refused(l, Refusal::NoHead);
     }
     refused(l, Refusal::Malformed)
 }
@@ -190,43 +218,19 @@ pub fn tick(l: Line, at: u32) -> Called
 pub fn measure(l: Line, i: usize, m: i32) -> Called
     ensures { λ r. ⌜ r ≡ measureOf l i m ⌝ }
 {
-    if fits(l) {
-        if has(l, i) {
-            if wellformed::in_reach(m) {
-                return done(placed(l, i, moves::measured(head_at(l, i), m)));
-            }
-            return refused(l, Refusal::OutOfReach);
-        }
-        return refused(l, Refusal::NoHead);
-    }
-    refused(l, Refusal::Malformed)
+    named(l, i, calls::measure(head_at(l, i), m))
 }
 
 // A key state of one head.
 pub fn keys(l: Line, i: usize, state: u32) -> Called
     ensures { λ r. ⌜ r ≡ keysOf l i state ⌝ }
 {
-    if fits(l) {
-        if has(l, i) {
-            if state <= 7 {
-                return done(placed(l, i, moves::keyed(head_at(l, i), state)));
-            }
-            return refused(l, Refusal::Keys);
-        }
-        return refused(l, Refusal::NoHead);
-    }
-    refused(l, Refusal::Malformed)
+    named(l, i, calls::keys(head_at(l, i), state))
 }
 
 // Power off and on at one head.
 pub fn power(l: Line, i: usize) -> Called
     ensures { λ r. ⌜ r ≡ powerOf l i ⌝ }
 {
-    if fits(l) {
-        if has(l, i) {
-            return done(placed(l, i, restart::restarted(head_at(l, i))));
-        }
-        return refused(l, Refusal::NoHead);
-    }
-    refused(l, Refusal::Malformed)
+    named(l, i, calls::power(head_at(l, i)))
 }

@@ -2,17 +2,24 @@
 -- all numbers of a span, computed. And the laws: each address is in exactly one group, and the groups agree with the table.
 -- Assumes nothing.
 use mathlib.Core.Path.{_≡_, refl, sym, _∙_, ap}
-use mathlib.Core.Bool.{Bool, true, false, cond, not}
+use mathlib.Core.Bool.{Bool, true, false, cond, not, _&&_}
 use mathlib.Core.List.{List, [], _∷_}
 use mathlib.Core.Logic.{_⊎_, inl, inr, ⊎-elim}
 use Prim.Native.Nat.{ℕ, zero, suc, _+_, _-_, _<_, _≤_}
 use native.Mathlib.Omega.{arith}
-use lib.Dec.{T, eqb, ltb, eqb→eq}
-use borrow.Author.Tests.{le-ltb, ltb-true, ltb-false, not-true}
+use lib.Dec.{T, eqb, leb, ltb, eqb→eq}
+use borrow.Author.Tests.{eqb-false, le-leb, le-ltb, ltb-true, ltb-false, ne-eqb, not-true}
 use Rattle.rows.specs.declared.access.Access.{Access}
 use Rattle.rows.specs.declared.access.Access.the-variants.{ReadWrite, ReadOnly, WriteOnly, Unknown}
 use Rattle.rows.specs.declared.kind.Kind.{Kind}
-use Rattle.rows.specs.declared.kind.Kind.the-variants.{Stored, SetPoint1, SetPoint2, Identification, Version, ErrorCount, ErrorAt, InputErrors, StatusWord, Differential, Pending, Position, System, Calibration, Interlock, Freezing, Unassigned}
+use Rattle.rows.specs.declared.kind.Kind.the-variants as kind
+use Rattle.rows.specs.declared.kind.Shown.{Shown}
+use Rattle.rows.specs.declared.kind.Shown.the-variants.{Identification, Version, ErrorCount, ErrorAt, InputErrors, StatusWord, Differential, Pending, Position}
+use Rattle.rows.specs.declared.kind.Order.{Order}
+use Rattle.rows.specs.declared.kind.Order.the-variants.{System, Calibration, Interlock, Freezing}
+use Rattle.rows.specs.declared.table.Place.{Place}
+use Rattle.rows.specs.declared.table.Place.the-variants.{At, Nowhere}
+use Rattle.rows.specs.Among.{among}
 use Rattle.rows.specs.Table.{rows, rowOf, placeOf}
 use Rattle.rows.specs.Access.{stored, setPoints, readOnly, writeOnly, accessOf}
 use Rattle.rows.specs.Kinds.{otherOf, kindOf, groupOf}
@@ -88,70 +95,57 @@ otherKeys =
 abbrev isUnknown : Access → Bool
 isUnknown x = eqb (code x) 3
 
-unassigned-only : (k : Kind) → T (isUnknown (groupOf k)) → Unassigned ≡ k
-unassigned-only (Stored i) t = absurd t
-unassigned-only SetPoint1 t = absurd t
-unassigned-only SetPoint2 t = absurd t
-unassigned-only Identification t = absurd t
-unassigned-only Version t = absurd t
-unassigned-only ErrorCount t = absurd t
-unassigned-only (ErrorAt i) t = absurd t
-unassigned-only InputErrors t = absurd t
-unassigned-only StatusWord t = absurd t
-unassigned-only Differential t = absurd t
-unassigned-only Pending t = absurd t
-unassigned-only Position t = absurd t
-unassigned-only System t = absurd t
-unassigned-only Calibration t = absurd t
-unassigned-only Interlock t = absurd t
-unassigned-only Freezing t = absurd t
-unassigned-only Unassigned t = refl
-
-abbrev isError : ℕ → Kind → Bool
-isError n (Stored i) = false
-isError n SetPoint1 = false
-isError n SetPoint2 = false
-isError n Identification = false
-isError n Version = false
-isError n ErrorCount = false
-isError n (ErrorAt i) = eqb n i
-isError n InputErrors = false
-isError n StatusWord = false
-isError n Differential = false
-isError n Pending = false
-isError n Position = false
-isError n System = false
-isError n Calibration = false
-isError n Interlock = false
-isError n Freezing = false
-isError n Unassigned = false
-
-error-only : (n : ℕ) (k : Kind) → T (isError n k) → ErrorAt n ≡ k
-error-only n (Stored i) t = absurd t
-error-only n SetPoint1 t = absurd t
-error-only n SetPoint2 t = absurd t
-error-only n Identification t = absurd t
-error-only n Version t = absurd t
-error-only n ErrorCount t = absurd t
-error-only n (ErrorAt i) t = ap ErrorAt (eqb→eq n i t)
-error-only n InputErrors t = absurd t
-error-only n StatusWord t = absurd t
-error-only n Differential t = absurd t
-error-only n Pending t = absurd t
-error-only n Position t = absurd t
-error-only n System t = absurd t
-error-only n Calibration t = absurd t
-error-only n Interlock t = absurd t
-error-only n Freezing t = absurd t
-error-only n Unassigned t = absurd t
+unknown-only : (k : Kind) → T (isUnknown (groupOf k)) → kind.Unknown ≡ k
+unknown-only (kind.Stored i) t = absurd t
+unknown-only kind.SetPoint1 t = absurd t
+unknown-only kind.SetPoint2 t = absurd t
+unknown-only (kind.ReadOnly s) t = absurd t
+unknown-only (kind.WriteOnly o) t = absurd t
+unknown-only kind.Unknown t = refl
 
 pub other-none : (lo n : ℕ) → T (span (outside otherKeys (λ k. isUnknown (groupOf (otherOf k)))) lo n) → {a : ℕ} → NoneOf otherKeys a
-    → lo ≤ a → a < lo + n → Unassigned ≡ otherOf a
-other-none lo n t {a} out h g = unassigned-only (otherOf a) (in-rest (λ k. isUnknown (groupOf (otherOf k))) otherKeys lo n t a out h g)
+    → lo ≤ a → a < lo + n → kind.Unknown ≡ otherOf a
+other-none lo n t {a} out h g = unknown-only (otherOf a) (in-rest (λ k. isUnknown (groupOf (otherOf k))) otherKeys lo n t a out h g)
 
-pub other-error : {a : ℕ} → NoneOf otherKeys a → 0x80 ≤ a → a < 0x8B → ErrorAt (a - 0x81) ≡ otherOf a
+pub other-error : {a : ℕ} → NoneOf otherKeys a → 0x80 ≤ a → a < 0x8B → kind.ReadOnly (ErrorAt (a - 0x81)) ≡ otherOf a
 unfolding otherOf
-other-error {a} out h g = error-only (a - 0x81) (otherOf a) (in-rest (λ k. isError (k - 0x81) (otherOf k)) otherKeys 0x80 11 tt a out h g)
+other-error {a} out h g =
+    let n : eqb a 0x80 ≡ false = not-true _ (is-true _ (in-rest (λ k. not (eqb k 0x80)) otherKeys 0x80 11 tt a out h g)) in
+    let m : (a ≡ 0x80 → ⊥) = eqb-false a 0x80 n in
+    simp (ne-eqb a 0x65 (λ e. omega arith), ne-eqb a 0x67 (λ e. omega arith), n, le-leb 0x81 a (omega arith), le-leb a 0x8A (omega arith))
+
+-- the address of an order
+abbrev pub orderAt : Order → ℕ
+orderAt System = 0xA0
+orderAt Calibration = 0xA7
+orderAt Interlock = 0xA8
+orderAt Freezing = 0xAA
+
+-- what holds of both answers of a test holds of what the test gives
+pub either : {A : Type 0} (P : A → Type 0) (b : Bool) {x y : A} → (b ≡ true → P x) → P y → P (cond b x y)
+either P true p q = p refl
+either P false p q = q
+
+-- what holds of all kinds but the 39 holds of what stands behind such an address; an order stands behind its own
+pub other-has : (P : Kind → Type 0) (a : ℕ) → P kind.SetPoint1 → P kind.SetPoint2 → ((s : Shown) → P (kind.ReadOnly s))
+    → ((o : Order) → eqb a (orderAt o) ≡ true → P (kind.WriteOnly o)) → P kind.Unknown → P (otherOf a)
+unfolding otherOf
+other-has P a one two shown order unknown =
+    either P (eqb a 0x65) (λ _. shown Identification)
+    (either P (eqb a 0x67) (λ _. shown Version)
+    (either P (eqb a 0x80) (λ _. shown ErrorCount)
+    (either P (leb 0x81 a && leb a 0x8A) (λ _. shown (ErrorAt (a - 0x81)))
+    (either P (eqb a 0x96) (λ _. shown InputErrors)
+    (either P (eqb a 0xA0) (order System)
+    (either P (eqb a 0xA7) (order Calibration)
+    (either P (eqb a 0xA8) (order Interlock)
+    (either P (eqb a 0xAA) (order Freezing)
+    (either P (eqb a 0xFA) (λ _. shown StatusWord)
+    (either P (eqb a 0xFB) (λ _. one)
+    (either P (eqb a 0xFC) (λ _. shown Differential)
+    (either P (eqb a 0xFD) (λ _. shown Pending)
+    (either P (eqb a 0xFE) (λ _. shown Position)
+    (either P (eqb a 0xFF) (λ _. two) unknown))))))))))))))
 
 -- ---- each of the 256 addresses falls in exactly one group
 abbrev count : List ℕ → ℕ → ℕ
@@ -170,3 +164,18 @@ one-group a h = eqb→eq _ 1 (in-span (λ k. eqb (listed k + cond (isUnknown (ac
 pub group-agrees : (a : ℕ) → a < 256 → groupOf (kindOf a) ≡ accessOf a
 unfolding kindOf otherOf placeOf accessOf rows
 group-agrees a h = same (groupOf (kindOf a)) a (in-span (λ k. is (groupOf (kindOf k)) k) 0 256 tt a (omega arith) (omega arith))
+
+-- an address is one of the 39 exactly where it has a place in the table
+abbrev pub isAt : Place → Bool
+isAt (At i) = true
+isAt Nowhere = false
+
+agree : (x y : Bool) → T (cond x y (not y)) → x ≡ y
+agree true true t = refl
+agree true false t = absurd t
+agree false true t = absurd t
+agree false false t = refl
+
+pub stored-at : (a : ℕ) → a < 256 → among stored a ≡ isAt (placeOf a)
+unfolding placeOf rows
+stored-at a h = agree _ _ (in-span (λ k. cond (among stored k) (isAt (placeOf k)) (not (isAt (placeOf k)))) 0 256 tt a (omega arith) (omega arith))

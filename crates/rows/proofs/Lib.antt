@@ -4,3 +4,4 @@ pub mod Groups
 pub mod Tests
 pub mod Fits
 pub mod Laws
+pub mod Written

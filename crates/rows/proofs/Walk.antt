@@ -13,7 +13,11 @@ use lib.Seq.{drop-cons}
 use borrow.Author.Tests.{eq-eqb, ne-eqb, eqb-true}
 use Rattle.rows.specs.declared.table.Row.{Row}
 use Rattle.rows.specs.declared.table.Place.the-variants.{At, Nowhere}
-use Rattle.rows.specs.Table.{address, placeIn}
+use Rattle.rows.specs.Table.{address, rows, placeIn}
+
+pub rows-39 : length rows ≡ 39
+unfolding rows
+rows-39 = refl
 
 module _ (d : Row) (rs : List Row) (i a : ℕ) where
   pub here : i < length rs → address (getD rs i d) ≡ a → placeIn (drop i rs) i a ≡ At i

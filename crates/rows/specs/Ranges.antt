@@ -1,12 +1,13 @@
 -- Whether a value is right for its parameter (document 01, "Stored parameters" and check 7).
 -- Assumes nothing.
-use Prim.Native.Nat.{ℕ}
+use Prim.Native.Nat.{ℕ, zero, suc, _+_}
 use mathlib.Core.Bool.{Bool, true, false, cond, _&&_, _||_}
 use mathlib.Core.List.{List, [], _∷_}
 use lib.Dec.{eqb}
-use lib.IntN.{ℤ, pos, negsuc}
+use lib.IntN.{ℤ, pos}
+use lib.ListN.{getD}
 use lib.Signed.{ltZ}
-use Rattle.signed.specs.Number.{numberOf}
+use Rattle.signed.specs.Number.{minus, numberOf}
 use Rattle.rows.specs.declared.table.Row.{Row}
 use Rattle.rows.specs.declared.table.Place.{Place}
 use Rattle.rows.specs.declared.table.Place.the-variants.{At, Nowhere}
@@ -40,7 +41,7 @@ otherRowOf a =
     (cond (eqb a 0xA7) (row 0xA7 (pos 1) (pos 1) 0)
     (cond (eqb a 0xA8) (row 0xA8 (pos 0) (pos 1) 0)
     (cond (eqb a 0xAA) (row 0xAA (pos 1) (pos 1) 0)
-    (cond (eqb a 0xFF) (row 0xFF (negsuc 2147483647) (pos 2147483647) 0)
+    (cond (eqb a 0xFF) (row 0xFF (minus 2147483648) (pos 2147483647) 0)
     (row a (pos 0) (pos 4294967295) 0)))))
 
 abbrev pub rowAt : Place → ℕ → Row
@@ -67,3 +68,8 @@ allIn (r ∷ rs) (w ∷ ws) = fitsIn r w && allIn rs ws
 
 unfoldable pub allRightOf : List ℕ → Bool
 allRightOf ws = allIn rows ws
+
+-- the n values from place i on lie in their rows
+abbrev pub rightFrom : ℕ → ℕ → List ℕ → Bool
+rightFrom i zero ws = true
+rightFrom i (suc n) ws = rightFrom i n ws && fitsIn (rowOf (i + n)) (getD ws (i + n) 0)

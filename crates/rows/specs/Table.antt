@@ -4,8 +4,9 @@ use Prim.Native.Nat.{ℕ, suc}
 use mathlib.Core.Bool.{cond}
 use mathlib.Core.List.{List, [], _∷_}
 use lib.Dec.{eqb}
-use lib.IntN.{ℤ, pos, negsuc}
+use lib.IntN.{ℤ, pos}
 use lib.ListN.{getD}
+use Rattle.signed.specs.Number.{minus}
 use Rattle.rows.specs.declared.table.Row.{Row}
 use Rattle.rows.specs.declared.table.Place.{Place}
 use Rattle.rows.specs.declared.table.Place.the-variants.{At, Nowhere}
@@ -47,8 +48,8 @@ rows =
     ∷ row 0x0F (pos 0) (pos 99999) 0
     ∷ row 0x1B (pos 0) (pos 1) 0
     ∷ row 0x1C (pos 1) (pos 65535) 720
-    ∷ row 0x1E (negsuc 19998) (pos 19999) 0
-    ∷ row 0x1F (negsuc 19998) (pos 99999) 0
+    ∷ row 0x1E (minus 19999) (pos 19999) 0
+    ∷ row 0x1F (minus 19999) (pos 99999) 0
     ∷ row 0x20 (pos 0) (pos 9999) 5
     ∷ row 0x21 (pos 0) (pos 2) 0
     ∷ row 0x22 (pos 0) (pos 9999) 0

@@ -5,10 +5,8 @@ ghost use mathlib.Core.Path.{_≡_};
 ghost use Prim.Native.Nat.{_-_};
 ghost use Rattle.rows.specs.Kinds.{otherOf, kindOf};
 
-pub enum Kind {
-    Stored(usize),
-    SetPoint1,
-    SetPoint2,
+// What a read only parameter shows.
+pub enum Shown {
     Identification,
     Version,
     ErrorCount,
@@ -18,21 +16,34 @@ pub enum Kind {
     Differential,
     Pending,
     Position,
+}
+
+// What a write only parameter orders.
+pub enum Order {
     System,
     Calibration,
     Interlock,
     Freezing,
-    Unassigned,
+}
+
+// The parameters by their access groups. Those that are read and written are the 39, by their places, and the two set points.
+pub enum Kind {
+    Stored(usize),
+    SetPoint1,
+    SetPoint2,
+    ReadOnly(Shown),
+    WriteOnly(Order),
+    Unknown,
 }
 
 // 81h is place 0 of the error memory.
 fn error_at(address: u8) -> Kind
-    ensures { λ r. ⌜ r ≡ Kind.ErrorAt (address - 0x81) ⌝ }
+    ensures { λ r. ⌜ r ≡ Kind.ReadOnly (Shown.ErrorAt (address - 0x81)) ⌝ }
 {
     if 0x81 <= address {
-        Kind::ErrorAt((address - 0x81) as usize)
+        Kind::ReadOnly(Shown::ErrorAt((address - 0x81) as usize))
     } else {
-        Kind::ErrorAt(0)
+        Kind::ReadOnly(Shown::ErrorAt(0))
     }
 }
 
@@ -41,22 +52,22 @@ fn other(address: u8) -> Kind
     ensures { λ r. ⌜ r ≡ otherOf address ⌝ }
 {
     match address {
-        0x65 => Kind::Identification,
-        0x67 => Kind::Version,
-        0x80 => Kind::ErrorCount,
+        0x65 => Kind::ReadOnly(Shown::Identification),
+        0x67 => Kind::ReadOnly(Shown::Version),
+        0x80 => Kind::ReadOnly(Shown::ErrorCount),
         0x81..=0x8A => error_at(address),
-        0x96 => Kind::InputErrors,
-        0xA0 => Kind::System,
-        0xA7 => Kind::Calibration,
-        0xA8 => Kind::Interlock,
-        0xAA => Kind::Freezing,
-        0xFA => Kind::StatusWord,
+        0x96 => Kind::ReadOnly(Shown::InputErrors),
+        0xA0 => Kind::WriteOnly(Order::System),
+        0xA7 => Kind::WriteOnly(Order::Calibration),
+        0xA8 => Kind::WriteOnly(Order::Interlock),
+        0xAA => Kind::WriteOnly(Order::Freezing),
+        0xFA => Kind::ReadOnly(Shown::StatusWord),
         0xFB => Kind::SetPoint1,
-        0xFC => Kind::Differential,
-        0xFD => Kind::Pending,
-        0xFE => Kind::Position,
+        0xFC => Kind::ReadOnly(Shown::Differential),
+        0xFD => Kind::ReadOnly(Shown::Pending),
+        0xFE => Kind::ReadOnly(Shown::Position),
         0xFF => Kind::SetPoint2,
-        _ => Kind::Unassigned,
+        _ => Kind::Unknown,
     }
 }
 

@@ -2,13 +2,16 @@
 -- Assumes nothing.
 use Prim.Native.String.{String}
 use mathlib.Core.Path.{_≡_, refl}
+use mathlib.Core.Bool.{true}
 use mathlib.Core.List.{List, [], _∷_}
 use lib.IntN.{pos, negsuc}
 use Rattle.script.specs.declared.Command.{Command}
 use Rattle.script.specs.declared.Command.the-variants.{Blank, Malformed, Grow, Send, Tick, Measure, Keys, Power, Space}
+use Rattle.script.specs.declared.arguments.Last.the-variants.{Nothing, PerhapsBytes}
 use Rattle.script.specs.Text.{text}
 use Rattle.script.specs.Words.{wordsOf, bareOf, sameOf}
 use Rattle.script.specs.Numbers.{numberOf, signedOf, hexOf, countOf, pairOf}
+use Rattle.script.specs.Arguments.{takesOf, givenOf, unfitOf, lastOf, argumentsOf}
 use Rattle.script.specs.Meaning.{nameOf, orderOf, commandOf, spokenOf, meaningOf, byteAtOf}
 use Rattle.script.proofs.Sent.{read}
 
@@ -27,11 +30,16 @@ Hold (c ∷ cs) = (meaningOf (text (c .line)) ≡ c .means) × Hold cs
 abbrev cases : List Case
 cases =
     "head 300" says Grow 300
+    ∷ "head" says Malformed
+    ∷ "head 1 2" says Malformed
+    ∷ "head 4294967296" says Malformed
+    ∷ "heads 300" says Malformed
     ∷ "send 0 001F200000000000003F" says Send 0 7 10
     ∷ "send 0 001F200000000000003" says Malformed
     ∷ "send 7 aF" says Send 7 7 1
     ∷ "send 7 aG" says Malformed
     ∷ "send 7" says Malformed
+    ∷ "send 7 aF aF" says Malformed
     ∷ "tick 4294967295" says Tick 4294967295
     ∷ "tick 4294967296" says Malformed
     ∷ "tick 000000000000000000000000000000001" says Tick 1
@@ -43,8 +51,13 @@ cases =
     ∷ "measure 0 -0" says Measure 0 (pos 0)
     ∷ "measure 0 --1" says Malformed
     ∷ "measure 0 -" says Malformed
+    ∷ "measure -1 0" says Malformed
+    ∷ "measure 0" says Malformed
     ∷ "\t keys\t0  9 \r" says Keys 0 9
     ∷ "keys 0 9 \r\r" says Malformed
+    ∷ "keys 0" says Malformed
+    ∷ "keys 0 1 2" says Malformed
+    ∷ "keys 0 -1" says Malformed
     ∷ "power 0" says Power 0
     ∷ "power 0 0" says Malformed
     ∷ "Power 0" says Malformed
@@ -56,10 +69,32 @@ cases =
     ∷ []
 
 hold : Hold cases
-unfolding wordsOf bareOf sameOf numberOf signedOf hexOf countOf nameOf orderOf commandOf spokenOf meaningOf
-hold = (refl, (refl, (refl, (refl, (refl, (refl, (refl, (refl, (refl, (refl, (refl, (refl, (refl, (refl, (refl, (refl, (refl, (refl, (refl, (refl, (refl, (refl, (refl, (refl, (refl, (refl, (refl, tt)))))))))))))))))))))))))))
+unfolding wordsOf bareOf sameOf numberOf signedOf hexOf countOf lastOf argumentsOf nameOf orderOf commandOf spokenOf meaningOf
+hold = (refl, (refl, (refl, (refl, (refl, (refl, (refl, (refl, (refl, (refl, (refl, (refl, (refl, (refl, (refl, (refl, (refl, (refl, (refl, (refl, (refl, (refl, (refl, (refl, (refl, (refl, (refl, (refl, (refl, (refl, (refl, (refl, (refl, (refl, (refl, (refl, (refl, tt)))))))))))))))))))))))))))))))))))))
 
--- the bytes of the second line, read one by one
+-- bytes that may be left out
+left-out : argumentsOf (takesOf (9 ∷ []) PerhapsBytes) (wordsOf (text "7")) ≡ givenOf true (7 ∷ 0 ∷ 0 ∷ 0 ∷ 0 ∷ 0 ∷ []) (pos 0) 0 0
+unfolding wordsOf numberOf lastOf argumentsOf
+left-out = refl
+
+given : argumentsOf (takesOf (9 ∷ []) PerhapsBytes) (wordsOf (text "7 1F2A")) ≡ givenOf true (7 ∷ 0 ∷ 0 ∷ 0 ∷ 0 ∷ 0 ∷ []) (pos 0) 2 2
+unfolding wordsOf numberOf hexOf countOf lastOf argumentsOf
+given = refl
+
+refused : argumentsOf (takesOf (9 ∷ []) PerhapsBytes) (wordsOf (text "7 1F2")) ≡ unfitOf
+unfolding wordsOf numberOf hexOf countOf lastOf argumentsOf
+refused = refl
+
+-- as many numbers as there may be, each in its place and up to its own limit
+six : argumentsOf (takesOf (1 ∷ 2 ∷ 3 ∷ 4 ∷ 5 ∷ 6 ∷ []) Nothing) (wordsOf (text "1 2 3 4 5 6")) ≡ givenOf true (1 ∷ 2 ∷ 3 ∷ 4 ∷ 5 ∷ 6 ∷ []) (pos 0) 0 0
+unfolding wordsOf numberOf lastOf argumentsOf
+six = refl
+
+sixth-over : argumentsOf (takesOf (1 ∷ 2 ∷ 3 ∷ 4 ∷ 5 ∷ 6 ∷ []) Nothing) (wordsOf (text "1 2 3 4 5 7")) ≡ unfitOf
+unfolding wordsOf numberOf lastOf argumentsOf
+sixth-over = refl
+
+-- the bytes of the first `send`, read one by one
 bytes : read (byteAtOf (text "send 0 001F200000000000003F") 7) 10 ≡ 0 ∷ 31 ∷ 32 ∷ 0 ∷ 0 ∷ 0 ∷ 0 ∷ 0 ∷ 0 ∷ 63 ∷ []
 unfolding byteAtOf pairOf hexOf
 bytes = refl

@@ -8,19 +8,20 @@ use mathlib.Core.Bool.{Bool, true, false, cond}
 use mathlib.Core.List.{List, [], _∷_}
 use borrow.Author.Tests.{eqb-false, lt-ltb}
 use lib.Dec.{ltb, eqb}
-use lib.IntN.{ℤ}
-use lib.ListN.{length, getD, take, length-take}
+use lib.IntN.{pos}
+use lib.ListN.{length, getD, set, take, length-take}
 use Rattle.script.specs.declared.Command.{Command}
 use Rattle.script.specs.declared.Command.the-variants as command
 use Rattle.script.specs.declared.Name.{Name}
 use Rattle.script.specs.declared.Name.the-variants as name
 use Rattle.script.specs.declared.numbers.Number.{Number}
 use Rattle.script.specs.declared.numbers.Number.the-variants as number
-use Rattle.script.specs.declared.numbers.Value.{Value}
-use Rattle.script.specs.declared.numbers.Value.the-variants as value
+use Rattle.script.specs.declared.arguments.Arguments.{Arguments}
+use Rattle.script.specs.declared.arguments.Last.the-variants as last
 use Rattle.script.specs.Words.{Word, wordsOf, bareOf}
-use Rattle.script.specs.Numbers.{numberOf, signedOf, countOf}
-use Rattle.script.specs.Meaning.{whole, largestSpace, longest, one, two, ifNumber, ifValue, ifSome, isNote, nameOf, orderOf, commandOf, spokenOf, meaningOf}
+use Rattle.script.specs.Numbers.{numberOf, countOf}
+use Rattle.script.specs.Arguments.{noNumbers, givenOf, unfitOf, ifNumber, ifSome, lastOf, argumentsOf}
+use Rattle.script.specs.Meaning.{whole, largestSpace, longest, rowOf, ifFit, isNote, nameOf, orderOf, commandOf, spokenOf, meaningOf}
 use Rattle.script.proofs.Reading.{number-within}
 
 -- the words of a `Send`
@@ -47,58 +48,65 @@ Told ws (command.Keys h s) = Unit {0}
 Told ws (command.Power h) = Unit {0}
 Told ws (command.Space n) = n ≤ largestSpace
 
-module _ (from : List Word) where
-  of-one : (f : Word → Command) → ((w : Word) → Told from (f w)) → (ws : List Word) → Told from (one f ws)
-  of-one f h [] = tt
-  of-one f h (a ∷ []) = h a
-  of-one f h (a ∷ b ∷ ws) = tt
+of-test : (from : List Word) (b : Bool) (c d : Command) → Told from c → Told from d → Told from (cond b c d)
+of-test from true c d p q = p
+of-test from false c d p q = q
 
-  of-two : (f : Word → Word → Command) → ((a b : Word) → Told from (f a b)) → (ws : List Word) → Told from (two f ws)
-  of-two f h [] = tt
-  of-two f h (a ∷ ws) = of-one (f a) (h a) ws
+-- the command that a row makes of what was read
+abbrev order : Name → Arguments → Command
+order n a = ifFit a (rowOf n .made a)
 
-  of-number : (f : ℕ → Command) (r : Number) → ((k : ℕ) → r ≡ number.Is k → Told from (f k)) → Told from (ifNumber r f)
-  of-number f (number.Is n) h = h n refl
-  of-number f number.Unfit h = tt
+-- words that fit make a command of which it holds; others make none
+of-fit : (from : List Word) (a : Arguments) (c : Command) → Told from c → Told from (ifFit a c)
+of-fit from a c h = of-test from (a .fit) c command.Malformed h tt
 
-  of-value : (f : ℤ → Command) (r : Value) → ((k : ℤ) → Told from (f k)) → Told from (ifValue r f)
-  of-value f (value.Is n) h = h n
-  of-value f value.Unfit h = tt
+-- one number, and what comes after it
+abbrev alone : ℕ → List ℕ
+alone n = set noNumbers 0 n
 
-  of-some : (f : ℕ → Command) (n : ℕ) → ((n ≡ 0 → ⊥) → Told from (f n)) → Told from (ifSome n f)
-  of-some f n h = go (eqb n 0) refl
-    where
-      go : (b : Bool) → eqb n 0 ≡ b → Told from (cond b command.Malformed (f n))
-      go true e = tt
-      go false e = h (eqb-false n 0 e)
-
-  of-test : (b : Bool) (c d : Command) → Told from c → Told from d → Told from (cond b c d)
-  of-test true c d p q = p
-  of-test false c d p q = q
+of-bytes : (from : List Word) (time start n : ℕ) → ((n ≡ 0 → ⊥) → Sending from time start n)
+    → Told from (order name.Send (ifSome n (givenOf true (alone time) (pos 0) start)))
+of-bytes from time start n h = go (eqb n 0) refl
+  where
+    go : (b : Bool) → eqb n 0 ≡ b → Told from (order name.Send (cond b unfitOf (givenOf true (alone time) (pos 0) start n)))
+    go true e = tt
+    go false e = h (eqb-false n 0 e)
 
 told-send : (w : Word) (ws : List Word) → nameOf (w .chars) ≡ name.Send → Told (w ∷ ws) (orderOf name.Send ws)
-unfolding orderOf
+unfolding orderOf argumentsOf lastOf
 told-send w [] e = tt
-told-send w (a ∷ []) e = tt
-told-send w (a ∷ b ∷ []) e =
-    let ws = w ∷ a ∷ b ∷ [] in
-    of-number ws _ (numberOf whole (a .chars)) (λ t k. of-some ws (command.Send t (b .start)) (countOf (b .chars)) (λ z.
-    record { first = w; second = a; third = b; words = refl; called = e; timed = k; starts = refl; counts = refl; some = z }))
-told-send w (a ∷ b ∷ c ∷ ws) e = tt
+told-send w (a ∷ ws) e = read (numberOf whole (a .chars)) refl ws
+  where
+    read : (r : Number) → numberOf whole (a .chars) ≡ r → (ws : List Word)
+        → Told (w ∷ a ∷ ws) (order name.Send (ifNumber r (λ (t : ℕ). lastOf last.Bytes (alone t) ws)))
+    read number.Unfit k ws = tt
+    read (number.Is t) k [] = tt
+    read (number.Is t) k (b ∷ []) =
+        of-bytes (w ∷ a ∷ b ∷ []) t (b .start) (countOf (b .chars)) (λ z.
+        record { first = w; second = a; third = b; words = refl; called = e; timed = k; starts = refl; counts = refl; some = z })
+    read (number.Is t) k (b ∷ c ∷ ws) = tt
+
+told-space : (w : Word) (ws : List Word) → Told (w ∷ ws) (orderOf name.Space ws)
+unfolding orderOf argumentsOf lastOf
+told-space w [] = tt
+told-space w (a ∷ ws) = read (numberOf largestSpace (a .chars)) refl ws
+  where
+    read : (r : Number) → numberOf largestSpace (a .chars) ≡ r → (ws : List Word)
+        → Told (w ∷ a ∷ ws) (order name.Space (ifNumber r (λ (n : ℕ). lastOf last.Nothing (alone n) ws)))
+    read number.Unfit k ws = tt
+    read (number.Is n) k [] = number-within largestSpace (a .chars) k
+    read (number.Is n) k (b ∷ ws) = tt
 
 told-order : (w : Word) (ws : List Word) (n : Name) → nameOf (w .chars) ≡ n → Told (w ∷ ws) (orderOf n ws)
 unfolding orderOf
-told-order w ws name.Head e = of-one (w ∷ ws) _ (λ a. of-number (w ∷ ws) command.Grow (numberOf whole (a .chars)) (λ k q. tt)) ws
+told-order w ws name.Other e = of-fit (w ∷ ws) (argumentsOf (rowOf name.Other .takes) ws) _ tt
+told-order w ws name.Head e = of-fit (w ∷ ws) (argumentsOf (rowOf name.Head .takes) ws) _ tt
 told-order w ws name.Send e = told-send w ws e
-told-order w ws name.Tick e = of-one (w ∷ ws) _ (λ a. of-number (w ∷ ws) command.Tick (numberOf whole (a .chars)) (λ k q. tt)) ws
-told-order w ws name.Measure e =
-    of-two (w ∷ ws) _ (λ a b. of-number (w ∷ ws) _ (numberOf whole (a .chars)) (λ k q. of-value (w ∷ ws) (command.Measure k) (signedOf (b .chars)) (λ v. tt))) ws
-told-order w ws name.Keys e =
-    of-two (w ∷ ws) _ (λ a b. of-number (w ∷ ws) _ (numberOf whole (a .chars)) (λ k q. of-number (w ∷ ws) (command.Keys k) (numberOf whole (b .chars)) (λ s r. tt))) ws
-told-order w ws name.Power e = of-one (w ∷ ws) _ (λ a. of-number (w ∷ ws) command.Power (numberOf whole (a .chars)) (λ k q. tt)) ws
-told-order w ws name.Space e =
-    of-one (w ∷ ws) _ (λ a. of-number (w ∷ ws) command.Space (numberOf largestSpace (a .chars)) (λ k q. number-within largestSpace (a .chars) q)) ws
-told-order w ws name.Other e = tt
+told-order w ws name.Tick e = of-fit (w ∷ ws) (argumentsOf (rowOf name.Tick .takes) ws) _ tt
+told-order w ws name.Measure e = of-fit (w ∷ ws) (argumentsOf (rowOf name.Measure .takes) ws) _ tt
+told-order w ws name.Keys e = of-fit (w ∷ ws) (argumentsOf (rowOf name.Keys .takes) ws) _ tt
+told-order w ws name.Power e = of-fit (w ∷ ws) (argumentsOf (rowOf name.Power .takes) ws) _ tt
+told-order w ws name.Space e = told-space w ws
 
 told-command : (ws : List Word) → Told ws (commandOf ws)
 unfolding commandOf

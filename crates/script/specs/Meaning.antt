@@ -1,69 +1,24 @@
--- What a line of a simulator script means: its words, by the first of them, then by their number, then by what each says.
+-- What a line of a simulator script means: a row for each command, found by the line's first word; it says what the words after that are read as.
 -- Assumes nothing.
 use Prim.Native.Nat.{ℕ, _+_, _*_}
 use Prim.Native.Char.{code}
+use Prim.Native.String.{String}
 use mathlib.Core.Bool.{Bool, cond}
 use mathlib.Core.List.{List, [], _∷_}
 use lib.Dec.{ltb, eqb}
-use lib.IntN.{ℤ}
 use lib.ListN.{length, getD}
 use Rattle.script.specs.declared.Command.{Command}
 use Rattle.script.specs.declared.Command.the-variants as command
 use Rattle.script.specs.declared.Name.{Name}
 use Rattle.script.specs.declared.Name.the-variants as name
-use Rattle.script.specs.declared.numbers.Number.{Number}
-use Rattle.script.specs.declared.numbers.Number.the-variants as number
-use Rattle.script.specs.declared.numbers.Value.{Value}
-use Rattle.script.specs.declared.numbers.Value.the-variants as value
+use Rattle.script.specs.declared.arguments.Arguments.{Arguments}
+use Rattle.script.specs.declared.arguments.Takes.{Takes}
+use Rattle.script.specs.declared.arguments.Last.{Last}
+use Rattle.script.specs.declared.arguments.Last.the-variants as last
 use Rattle.script.specs.Text.{text}
 use Rattle.script.specs.Words.{Word, wordsOf, bareOf, sameOf}
-use Rattle.script.specs.Numbers.{numberOf, signedOf, countOf, pairOf}
-
--- the command words, in lower case
-unfoldable pub nameOf : List ℕ → Name
-nameOf w =
-    cond (sameOf w (text "head")) name.Head
-    (cond (sameOf w (text "send")) name.Send
-    (cond (sameOf w (text "tick")) name.Tick
-    (cond (sameOf w (text "measure")) name.Measure
-    (cond (sameOf w (text "keys")) name.Keys
-    (cond (sameOf w (text "power")) name.Power
-    (cond (sameOf w (text "space")) name.Space
-    name.Other))))))
-
--- exactly one word, and exactly two: a missing or an extra word makes no command
-abbrev pub one : (Word → Command) → List Word → Command
-one f [] = command.Malformed
-one f (a ∷ []) = f a
-one f (a ∷ b ∷ ws) = command.Malformed
-
-abbrev pub two : (Word → Word → Command) → List Word → Command
-two f [] = command.Malformed
-two f (a ∷ ws) = one (f a) ws
-
--- what was read goes on to `f`; what was not makes no command
-abbrev pub ifNumber : Number → (ℕ → Command) → Command
-ifNumber (number.Is n) f = f n
-ifNumber number.Unfit f = command.Malformed
-
-abbrev pub ifValue : Value → (ℤ → Command) → Command
-ifValue (value.Is v) f = f v
-ifValue value.Unfit f = command.Malformed
-
-abbrev pub ifSome : ℕ → (ℕ → Command) → Command
-ifSome n f = cond (eqb n 0) command.Malformed (f n)
-
--- a word that is a number up to a limit
-abbrev pub decimal : ℕ → Word → (ℕ → Command) → Command
-decimal limit w f = ifNumber (numberOf limit (w .chars)) f
-
--- a word that is a number of 32 bits with a sign
-abbrev pub signed : Word → (ℤ → Command) → Command
-signed w f = ifValue (signedOf (w .chars)) f
-
--- a word that is bytes, at least one: the place where its digits start, and how many bytes they are
-abbrev pub bytes : Word → (ℕ → ℕ → Command) → Command
-bytes w f = ifSome (countOf (w .chars)) (λ count. f (w .start) count)
+use Rattle.script.specs.Numbers.{pairOf}
+use Rattle.script.specs.Arguments.{takesOf, argumentsOf}
 
 -- the largest number of 32 bits
 abbrev pub whole : ℕ
@@ -73,16 +28,44 @@ whole = 4294967295
 abbrev pub largestSpace : ℕ
 largestSpace = 64
 
--- head NODE, send TIME HEX, tick TIME, measure HEAD VALUE, keys HEAD STATE, power HEAD, space SIZE: each command by the words after its name
+-- a command: its word, what it takes, and what it is, made of what the words after its own say
+pub record Row : Type 0 where
+  pub word : String
+  pub takes : Takes
+  pub made : Arguments → Command
+
+-- a command that takes numbers up to these limits, and after them what is said
+abbrev row : String → List ℕ → Last → (Arguments → Command) → Row
+row word limits after made = record { word = word; takes = takesOf limits after; made = made }
+
+-- any other word, which makes no command, then head NODE, send TIME HEX, tick TIME, measure HEAD VALUE, keys HEAD STATE, power HEAD, space SIZE
+abbrev pub rowOf : Name → Row
+rowOf name.Other = row "" [] last.Nothing (λ a. command.Malformed)
+rowOf name.Head = row "head" (whole ∷ []) last.Nothing (λ a. command.Grow (a .first))
+rowOf name.Send = row "send" (whole ∷ []) last.Bytes (λ a. command.Send (a .first) (a .from) (a .count))
+rowOf name.Tick = row "tick" (whole ∷ []) last.Nothing (λ a. command.Tick (a .first))
+rowOf name.Measure = row "measure" (whole ∷ []) last.Signed (λ a. command.Measure (a .first) (a .value))
+rowOf name.Keys = row "keys" (whole ∷ whole ∷ []) last.Nothing (λ a. command.Keys (a .first) (a .second))
+rowOf name.Power = row "power" (whole ∷ []) last.Nothing (λ a. command.Power (a .first))
+rowOf name.Space = row "space" (largestSpace ∷ []) last.Nothing (λ a. command.Space (a .first))
+
+-- the command whose word it is, in lower case; of the names gone through, `found` is the one so far
+abbrev pub names : List Name
+names = name.Head ∷ name.Send ∷ name.Tick ∷ name.Measure ∷ name.Keys ∷ name.Power ∷ name.Space ∷ []
+
+abbrev nameIn : Name → List Name → List ℕ → Name
+nameIn found [] w = found
+nameIn found (n ∷ ns) w = nameIn (cond (sameOf w (text (rowOf n .word))) n found) ns w
+
+unfoldable pub nameOf : List ℕ → Name
+nameOf w = nameIn name.Other names w
+
+-- the command that its row makes of the words after the name, where they fit
+abbrev pub ifFit : Arguments → Command → Command
+ifFit a c = cond (a .fit) c command.Malformed
+
 unfoldable pub orderOf : Name → List Word → Command
-orderOf name.Head ws = one (λ node. decimal whole node command.Grow) ws
-orderOf name.Send ws = two (λ time hex. decimal whole time (λ t. bytes hex (λ from count. command.Send t from count))) ws
-orderOf name.Tick ws = one (λ time. decimal whole time command.Tick) ws
-orderOf name.Measure ws = two (λ at value. decimal whole at (λ h. signed value (λ v. command.Measure h v))) ws
-orderOf name.Keys ws = two (λ at state. decimal whole at (λ h. decimal whole state (λ s. command.Keys h s))) ws
-orderOf name.Power ws = one (λ at. decimal whole at command.Power) ws
-orderOf name.Space ws = one (λ size. decimal largestSpace size command.Space) ws
-orderOf name.Other ws = command.Malformed
+orderOf n ws = let a = argumentsOf (rowOf n .takes) ws in ifFit a (rowOf n .made a)
 
 -- the word starts with `#`
 abbrev pub isNote : Word → Bool

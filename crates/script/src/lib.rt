@@ -1,14 +1,16 @@
 // What a line of a simulator script means.
+mod arguments;
 mod numbers;
 mod words;
 
-use numbers::Number;
-use numbers::Value;
+use arguments::Arguments;
+use arguments::Last;
+use arguments::Takes;
 ghost use mathlib.Core.Path.{_≡_};
 ghost use mathlib.Core.Bool.{cond};
 ghost use Rattle.script.specs.Words.{sameOf};
 ghost use Rattle.script.specs.Places.{wordsAt};
-ghost use Rattle.script.specs.Meaning.{nameOf, orderOf, spokenOf, meaningOf, byteAtOf};
+ghost use Rattle.script.specs.Meaning.{nameOf, rowOf, orderOf, spokenOf, meaningOf, byteAtOf};
 
 // The largest number of 32 bits.
 const WHOLE: u32 = 4_294_967_295;
@@ -43,8 +45,9 @@ pub enum Command {
     Space(usize),
 }
 
-// The command word.
+// The command word, or any other.
 enum Name {
+    Other,
     Head,
     Send,
     Tick,
@@ -52,7 +55,6 @@ enum Name {
     Keys,
     Power,
     Space,
-    Other,
 }
 
 // What a line without its newline means. One of more than 4,097 bytes is malformed whatever it holds, so that its first 4,098 bytes do for it.
@@ -107,114 +109,65 @@ fn called(word: &[u8], name: &[u8], yes: Name, no: Name) -> Name
 fn named(word: &[u8]) -> Name
     ensures { λ r. ⌜ r ≡ nameOf (now (word .entry)) ⌝ }
 {
-    let space = called(word, b"space", Name::Space, Name::Other);
-    let power = called(word, b"power", Name::Power, space);
-    let keys = called(word, b"keys", Name::Keys, power);
-    let measure = called(word, b"measure", Name::Measure, keys);
-    let tick = called(word, b"tick", Name::Tick, measure);
-    let send = called(word, b"send", Name::Send, tick);
-    called(word, b"head", Name::Head, send)
+    let head = called(word, b"head", Name::Head, Name::Other);
+    let send = called(word, b"send", Name::Send, head);
+    let tick = called(word, b"tick", Name::Tick, send);
+    let measure = called(word, b"measure", Name::Measure, tick);
+    let keys = called(word, b"keys", Name::Keys, measure);
+    let power = called(word, b"power", Name::Power, keys);
+    called(word, b"space", Name::Space, power)
 }
 
 // The command of that name with the words from the place `from` on.
 fn order(name: Name, line: &[u8], from: usize) -> Command
     ensures { λ r. ⌜ r ≡ orderOf name (wordsAt (now (line .entry)) from) ⌝ }
 {
+    let a = arguments::read(line, from, takes(name));
+    if a.fit {
+        made(name, a)
+    } else {
+        Command::Malformed
+    }
+}
+
+// What each command takes.
+fn takes(name: Name) -> Takes
+    ensures { λ r. ⌜ r ≡ rowOf name .takes ⌝ }
+{
     match name {
-        Name::Head => grow(line, from),
-        Name::Send => send(line, from),
-        Name::Tick => tick(line, from),
-        Name::Measure => measure(line, from),
-        Name::Keys => keys(line, from),
-        Name::Power => power(line, from),
-        Name::Space => space(line, from),
+        Name::Other => Takes([0, 0, 0, 0, 0, 0], 0, Last::Nothing),
+        Name::Head => Takes([WHOLE, 0, 0, 0, 0, 0], 1, Last::Nothing),
+        Name::Send => Takes([WHOLE, 0, 0, 0, 0, 0], 1, Last::Bytes),
+        Name::Tick => Takes([WHOLE, 0, 0, 0, 0, 0], 1, Last::Nothing),
+        Name::Measure => Takes([WHOLE, 0, 0, 0, 0, 0], 1, Last::Signed),
+        Name::Keys => Takes([WHOLE, WHOLE, 0, 0, 0, 0], 2, Last::Nothing),
+        Name::Power => Takes([WHOLE, 0, 0, 0, 0, 0], 1, Last::Nothing),
+        Name::Space => Takes([LARGEST_SPACE, 0, 0, 0, 0, 0], 1, Last::Nothing),
+    }
+}
+
+// The command that each makes of what it takes.
+fn made(name: Name, a: Arguments) -> Command
+    ensures { λ r. ⌜ r ≡ rowOf name .made a ⌝ }
+{
+    match name {
         Name::Other => Command::Malformed,
-    }
-}
-
-// head NODE
-fn grow(line: &[u8], from: usize) -> Command
-    ensures { λ r. ⌜ r ≡ orderOf Name.Head (wordsAt (now (line .entry)) from) ⌝ }
-{
-    match numbers::decimal(words::sole(line, from), WHOLE) {
-        Number::Is(node) => Command::Grow(node),
-        Number::Unfit => Command::Malformed,
-    }
-}
-
-// tick TIME
-fn tick(line: &[u8], from: usize) -> Command
-    ensures { λ r. ⌜ r ≡ orderOf Name.Tick (wordsAt (now (line .entry)) from) ⌝ }
-{
-    match numbers::decimal(words::sole(line, from), WHOLE) {
-        Number::Is(time) => Command::Tick(time),
-        Number::Unfit => Command::Malformed,
-    }
-}
-
-// power HEAD
-fn power(line: &[u8], from: usize) -> Command
-    ensures { λ r. ⌜ r ≡ orderOf Name.Power (wordsAt (now (line .entry)) from) ⌝ }
-{
-    match numbers::decimal(words::sole(line, from), WHOLE) {
-        Number::Is(head) => Command::Power(head),
-        Number::Unfit => Command::Malformed,
-    }
-}
-
-// space SIZE
-fn space(line: &[u8], from: usize) -> Command
-    ensures { λ r. ⌜ r ≡ orderOf Name.Space (wordsAt (now (line .entry)) from) ⌝ }
-{
-    match numbers::decimal(words::sole(line, from), LARGEST_SPACE) {
-        Number::Is(size) => Command::Space(size as usize),
-        Number::Unfit => Command::Malformed,
-    }
-}
-
-// keys HEAD STATE
-fn keys(line: &[u8], from: usize) -> Command
-    ensures { λ r. ⌜ r ≡ orderOf Name.Keys (wordsAt (now (line .entry)) from) ⌝ }
-{
-    let Number::Is(head) = numbers::decimal(words::first(line, from), WHOLE) else {
-        return Command::Malformed;
-    };
-    let next = words::after(line, from);
-    match numbers::decimal(words::sole(line, next), WHOLE) {
-        Number::Is(state) => Command::Keys { head, state },
-        Number::Unfit => Command::Malformed,
-    }
-}
-
-// measure HEAD VALUE
-fn measure(line: &[u8], from: usize) -> Command
-    ensures { λ r. ⌜ r ≡ orderOf Name.Measure (wordsAt (now (line .entry)) from) ⌝ }
-{
-    let Number::Is(head) = numbers::decimal(words::first(line, from), WHOLE) else {
-        return Command::Malformed;
-    };
-    let next = words::after(line, from);
-    match numbers::signed(words::sole(line, next)) {
-        Value::Is(value) => Command::Measure { head, value },
-        Value::Unfit => Command::Malformed,
-    }
-}
-
-// send TIME HEX
-fn send(line: &[u8], from: usize) -> Command
-    ensures { λ r. ⌜ r ≡ orderOf Name.Send (wordsAt (now (line .entry)) from) ⌝ }
-{
-    let Number::Is(time) = numbers::decimal(words::first(line, from), WHOLE) else {
-        return Command::Malformed;
-    };
-    let next = words::after(line, from);
-    let count = numbers::hex_bytes(words::sole(line, next));
-    if count == 0 {
-        return Command::Malformed;
-    }
-    Command::Send {
-        time,
-        from: words::start(line, next),
-        count,
+        Name::Head => Command::Grow(a.first),
+        Name::Send => Command::Send {
+            time: a.first,
+            from: a.from,
+            count: a.count,
+        },
+        Name::Tick => Command::Tick(a.first),
+        Name::Measure => Command::Measure {
+            head: a.first,
+            value: a.value,
+        },
+        Name::Keys => Command::Keys {
+            head: a.first,
+            state: a.second,
+        },
+        Name::Power => Command::Power(a.first),
+        Name::Space => Command::Space(a.first as usize),
     }
 }

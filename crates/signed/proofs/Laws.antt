@@ -9,7 +9,7 @@ use native.Mathlib.Omega.{arith}
 use borrow.Author.Tests.{lt-ltb, le-ltb, ltb-true}
 use lib.IntN.{ℤ, pos, negsuc, natAbs, _+ℤ_, _-ℤ_}
 use lib.Signed.{ltZ, mag}
-use Rattle.signed.specs.Number.{numberOf, wordOf, withSign}
+use Rattle.signed.specs.Number.{minus, numberOf, wordOf, withSign}
 use Rattle.signed.specs.Rounding.{divisorOf, nearestOf, roundedOf}
 use Rattle.signed.specs.Difference.{heldOf}
 use Rattle.signed.specs.Position.{absoluteOf, relativeOf}
@@ -85,7 +85,7 @@ held-same (pos n) h = simp (le-ltb 5242880 n h)
 held-same (negsuc n) h = simp (le-ltb 5242879 n (omega arith))
 
 -- what lies beyond a limit is held at it
-pub held-low : (v : ℤ) → ltZ v (pos 0) ≡ true → 5242880 < natAbs v → heldOf v ≡ negsuc 5242879
+pub held-low : (v : ℤ) → ltZ v (pos 0) ≡ true → 5242880 < natAbs v → heldOf v ≡ minus 5242880
 unfolding heldOf
 held-low (pos n) t h = absurd (omega (arith, ltb-true n 0 t))
 held-low (negsuc n) t h = simp (lt-ltb 5242879 n (omega arith))

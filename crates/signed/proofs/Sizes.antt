@@ -9,6 +9,7 @@ use borrow.Author.Tests.{lt-ltb, le-ltb, ltb-true, ltb-false}
 use lib.Dec.{ltb}
 use lib.IntN.{ℤ, pos, negsuc, natAbs, negℤ, subℕ, _+ℤ_, _-ℤ_}
 use lib.Signed.{ltZ, mag}
+use Rattle.signed.specs.Number.{minus}
 
 pub less-or-not : (a b : ℕ) → (a < b) ⊎ (b ≤ a)
 less-or-not a b = go (ltb a b) refl
@@ -32,7 +33,7 @@ turned (pos n) e = absurd (omega (arith, ltb-true n 0 e))
 turned (negsuc n) e = simp (le-ltb (suc n) 1 (omega arith)) (ap pos (omega arith))
 
 -- a number is its size with its sign
-pub minus-size : (z : ℤ) → ltZ z (pos 0) ≡ true → negℤ (pos (natAbs z)) ≡ z
+pub minus-size : (z : ℤ) → ltZ z (pos 0) ≡ true → minus (natAbs z) ≡ z
 minus-size (pos n) e = absurd (omega (arith, ltb-true n 0 e))
 minus-size (negsuc n) e = refl
 

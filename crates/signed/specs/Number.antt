@@ -5,6 +5,10 @@ use mathlib.Core.Bool.{Bool, cond}
 use lib.Dec.{ltb}
 use lib.IntN.{ℤ, pos, negsuc, natAbs, negℤ, _-ℤ_}
 
+-- a number below 0: minus 5 is -5
+abbrev pub minus : ℕ → ℤ
+minus n = negℤ (pos n)
+
 -- the number that a word stands for
 unfoldable pub numberOf : ℕ → ℤ
 numberOf w = cond (ltb w 2147483648) (pos w) (pos w -ℤ pos 4294967296)
@@ -20,4 +24,4 @@ distanceOf a b = natAbs (a -ℤ b)
 
 -- a size with a sign
 abbrev pub withSign : Bool → ℕ → ℤ
-withSign negative n = cond negative (negℤ (pos n)) (pos n)
+withSign negative n = cond negative (minus n) (pos n)

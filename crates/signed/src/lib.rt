@@ -1,8 +1,8 @@
 // Numbers with a sign: two's complement, size and distance, rounding, the differential value. Every function is defined for every input.
 ghost use mathlib.Core.Path.{_≡_};
 ghost use Prim.Native.Nat.{_≤_};
-ghost use lib.IntN.{pos, natAbs, negℤ, _-ℤ_};
-ghost use Rattle.signed.specs.Number.{numberOf, wordOf, distanceOf};
+ghost use lib.IntN.{natAbs, _-ℤ_};
+ghost use Rattle.signed.specs.Number.{minus, numberOf, wordOf, distanceOf};
 ghost use Rattle.signed.specs.Rounding.{divisorOf, nearestOf, roundedOf};
 ghost use Rattle.signed.specs.Difference.{heldOf, differentialOf};
 ghost use Rattle.signed.specs.Position.{absoluteOf, relativeOf};
@@ -49,7 +49,7 @@ pub fn distance(a: i64, b: i64) -> u64
 // A size with a minus sign.
 fn minus(n: u64) -> i64
     requires { ⌜ n ≤ 9223372036854775808 ⌝ }
-    ensures { λ r. ⌜ r ≡ negℤ (pos n) ⌝ }
+    ensures { λ r. ⌜ r ≡ minus n ⌝ }
 {
     if n == 0 { 0 } else { -1 - (n - 1) as i64 }
 }

@@ -2,31 +2,34 @@
 use libc::STDERR_FILENO;
 use libc::STDOUT_FILENO;
 
-fn commands() {
-    io::write_all(
-        STDOUT_FILENO,
+fn write(text: &[u8]) -> bool {
+    io::write_all(STDOUT_FILENO, text)
+}
+
+fn words() -> bool {
+    let what = write(
         b"A line of SIKONETZ5 heads under a script on standard input: one command a line,\nwords separated by blanks or tabs, one line of output for each.\n\n",
     );
-    io::write_all(
-        STDOUT_FILENO,
+    let line = write(
         b"  head NODE            grow the line by a head; the first is head 0\n  send TIME HEX        feed these bytes (two hex digits each), all at TIME\n  tick TIME            let the heads look at the clock\n",
     );
-    io::write_all(
-        STDOUT_FILENO,
+    let heads = write(
         b"  measure HEAD VALUE   a head's measurement; VALUE may have a minus sign\n  keys HEAD STATE      a head's keys: 1 left, 2 star, 4 up, or a sum of these\n  power HEAD           switch a head off and on\n  space SIZE           how much reply space bytes lend, 0 to 64; 10 at first\n\n",
     );
-    io::write_all(
-        STDOUT_FILENO,
+    what & line & heads
+}
+
+fn answers() -> bool {
+    let form = write(
         b"Numbers are decimal, TIME is in milliseconds. Blank lines and lines whose first\nword starts with # are passed over. What is written for a command:\n\n",
     );
-    io::write_all(
-        STDOUT_FILENO,
+    let done = write(
         b"  ok                   done\n  sent ...             fed; then each reply as twenty hex digits, or 'collision N'\n                       where N heads replied at once\n",
     );
-    io::write_all(
-        STDOUT_FILENO,
+    let refused = write(
         b"  refused N            1 node number not 1 to 127   4 measurement out of range\n                       2 ninth head                 5 key state above 7\n                       3 no such head               6 space under ten bytes\n  error at line N      the line is none of these commands\n",
     );
+    form & done & refused
 }
 
 // The only argument that there is.
@@ -34,7 +37,10 @@ pub(crate) fn explain() {
     let mut word = [0u8; 5];
     let n = os::arg(1, &mut word);
     if check::same(&word[..n], b"help") {
-        commands();
+        let commands = words();
+        if !(answers() & commands) {
+            os::fail(b"standard output");
+        }
     } else {
         io::write_all(
             STDERR_FILENO,

@@ -1,14 +1,17 @@
 -- What holds of a head for any caller: where its settings stand, what a well-formed head is, and how large its values can be.
 -- Assumes nothing.
-use Prim.Native.Nat.{ℕ, _≤_, _<_}
-use mathlib.Core.Path.{_≡_, refl}
+use Prim.Native.Nat.{ℕ, _+_, _*_, _%_, _^_, _≤_, _<_}
+use mathlib.Core.Path.{_≡_, refl, sym}
 use mathlib.Core.Bool.{Bool, true, false, cond, not, _&&_, and-eq-true-iff}
-use mathlib.Core.List.{List, [], _∷_, map}
+use mathlib.Core.List.{List, [], _∷_, _++_, map}
 use mathlib.Core.Logic.{⊎-elim}
+use native.Mathlib.Numerals.{add-one}
 use native.Mathlib.Omega.{arith}
 use lib.Dec.{leb, ltb, eqb}
 use lib.IntN.{ℤ, pos, negsuc, natAbs}
-use borrow.Author.Tests.{leb-true, le-leb, lt-ltb, le-ltb, eq-eqb}
+use lib.ListN.{length, drop, set, length-set, length-append, length-drop}
+use lib.Seq.{length-take-le, take-all, take-suc, take-set-le, getD-set-same}
+use borrow.Author.Tests.{leb-true, le-leb, lt-ltb, le-ltb, ltb-true, ltb-false, eq-eqb}
 use Rattle.signed.proofs.Sizes.{less-or-not}
 use Rattle.signed.proofs.Laws.{absolute-small, relative-small, rounded-small}
 use Rattle.rows.specs.declared.table.Place.the-variants.{At}
@@ -20,14 +23,15 @@ use Rattle.state.specs.declared.parts.Head.{Head}
 use Rattle.state.specs.declared.parts.Stored.{Stored}
 use Rattle.state.specs.declared.parts.Faults.{Faults}
 use Rattle.state.specs.declared.parts.Measurement.{Measurement}
-use Rattle.state.specs.declared.parts.Targets.{Targets}
 use Rattle.state.specs.declared.parts.Ear.{Ear}
 use Rattle.state.specs.declared.status.Bearing.{Bearing}
+use Rattle.state.specs.Bits.{bit, bitSet}
 use Rattle.state.specs.Settings.{valueAt, nodePlace, baudPlace, timeoutPlace, responsePlace, calibrationKeyPlace, divisorPlace, interlockPlace, directionPlace, offsetPlace, calibrationPlace, window1Place, window2Place, applicationPlace, differencePlace, incrementalKeyPlace}
-use Rattle.state.specs.Errors.{rememberedOf}
-use Rattle.state.specs.Position.{positionOf, actualOf, shownOf, placedAt, viewOf}
-use Rattle.state.specs.Status.{bitOf, aimBitsOf, restBitsOf, aimedAt, statusOf}
+use Rattle.state.specs.Errors.{entries, entered, rememberedOf}
+use Rattle.state.specs.Position.{positionOf, actualOf, shownOf, positionBy, viewOf}
+use Rattle.state.specs.Status.{aimBitsOf, restBitsOf, aimedOf, statusOf, withinOf}
 use Rattle.state.specs.Wellformed.{inReachOf, storedFits, faultsFit, keptFits, measurementFits, earFits, wellformedOf}
+use Rattle.state.proofs.Bits.{bit-most, bit-weighs, bit-five}
 
 -- ---- each place is its address's place
 pub places :
@@ -39,44 +43,71 @@ pub places :
 unfolding placeOf rows
 places = refl
 
--- ---- the status word fits 16 bits
-bit-small : (on : Bool) (weight : ℕ) → bitOf on weight ≤ weight
-bit-small true weight = omega arith
-bit-small false weight = omega arith
+-- ---- the status word
+-- of a head: whether set point 2 is valid, how A lies to it, and which bits are on
+module _ (h : Head) where
+  abbrev bearing : Bearing
+  bearing = aimedOf (h .stored .values) (h .measurement) (h .targets)
 
-aim-small : (valid : Bool) (g : Bearing) → aimBitsOf valid g ≤ 107
-unfolding aimBitsOf
-aim-small valid g =
-    omega (
-      arith,
-      bit-small (valid && (not (g .near) && g .clockwise)) 1,
-      bit-small (valid && (not (g .near) && not (g .clockwise))) 2,
-      bit-small (valid && g .far) 8,
-      bit-small (valid && g .near) 32,
-      bit-small (valid && g .above) 64,
-    )
+  abbrev aims : Bool
+  aims = h .targets .valid2
 
-rest-small : (t : Targets) (pending frozen incremental : Bool) (keys : ℕ) → restBitsOf t pending frozen incremental keys ≤ 59284
-unfolding restBitsOf
-rest-small t pending frozen incremental keys =
-    omega (
-      arith,
-      bit-small (t .valid1) 4,
-      bit-small (t .reached) 16,
-      bit-small pending 128,
-      bit-small frozen 256,
-      bit-small incremental 512,
-      bit-small (t .valid2) 1024,
-    )
+  abbrev turns : Bool → Bool
+  turns clockwise = aims && (not (bearing .inside1) && clockwise)
 
-pub status-fits : (h : Head) → statusOf h < 65536
-unfolding statusOf
-status-fits h =
-    omega (
-      arith,
-      aim-small (h .targets .valid2) (aimedAt (h .stored .values) (h .measurement) (h .targets)),
-      rest-small (h .targets) (not (eqb (h .faults .pending) 0)) (h .measurement .frozen) (h .measurement .incremental) (h .keys),
-    )
+  abbrev pending : Bool
+  pending = not (eqb (h .faults .pending) 0)
+
+  -- the bits below bit 5, and those above it by its double
+  abbrev low : ℕ
+  low = bit 0 (turns (bearing .clockwise)) + bit 1 (turns (not (bearing .clockwise))) + bit 3 (aims && bearing .inside2) + bit 2 (h .targets .valid1) + bit 4 (h .targets .reached)
+
+  abbrev high : ℕ
+  high =
+      bit 0 (aims && bearing .above) + 2 * bit 0 pending + 4 * bit 0 (h .measurement .frozen) + 8 * bit 0 (h .measurement .incremental) + 16 * bit 0 aims
+      + 128 * (h .keys % 8)
+
+  low-small : low < 2 ^ 5
+  low-small =
+      omega (
+        arith,
+        bit-most 0 (turns (bearing .clockwise)),
+        bit-most 1 (turns (not (bearing .clockwise))),
+        bit-most 3 (aims && bearing .inside2),
+        bit-most 2 (h .targets .valid1),
+        bit-most 4 (h .targets .reached),
+      )
+
+  status-is : statusOf h ≡ low + bit 5 (aims && bearing .inside1) + 2 ^ 6 * high
+  unfolding statusOf aimBitsOf restBitsOf
+  status-is =
+      omega (
+        arith,
+        bit-weighs 6 (aims && bearing .above),
+        bit-weighs 7 pending,
+        bit-weighs 8 (h .measurement .frozen),
+        bit-weighs 9 (h .measurement .incremental),
+        bit-weighs 10 aims,
+      )
+
+  pub status-fits : statusOf h < 65536
+  status-fits =
+      omega (
+        arith,
+        status-is,
+        low-small,
+        bit-most 5 (aims && bearing .inside1),
+        bit-most 0 (aims && bearing .above),
+        bit-most 0 pending,
+        bit-most 0 (h .measurement .frozen),
+        bit-most 0 (h .measurement .incremental),
+        bit-most 0 aims,
+      )
+
+  -- its bit 5 is what sets the static bit
+  pub within-bit : withinOf (h .stored .values) (h .measurement) (h .targets) ≡ bitSet (statusOf h) 5
+  unfolding withinOf
+  within-bit = rw status-is (sym (bit-five low high (aims && bearing .inside1) low-small))
 
 -- ---- a list stays one of at most ten
 pub remembered-few : (l : ErrorList) (code : ℕ) → l .count ≤ 10 → rememberedOf l code .count ≤ 10
@@ -86,6 +117,24 @@ remembered-few l code h =
     (λ p. simp (lt-ltb (l .count) 10 p) (omega arith))
     (λ p. let e : l .count ≡ 10 = omega arith in simp (le-ltb (l .count) 10 p, eq-eqb (l .count) 10 e) h)
     (less-or-not (l .count) 10)
+
+-- ---- its entries are those before it and the new one
+pub remembers : (l : ErrorList) (code : ℕ) → length (l .codes) ≡ 10 → l .count ≤ 10 → entries (rememberedOf l code) ≡ entered (entries l) code
+unfolding rememberedOf
+remembers l code long few = go (ltb (l .count) 10) refl
+  where
+    size : length (entries l) ≡ l .count
+    size = length-take-le (l .count) (l .codes) (omega arith)
+
+    go : (b : Bool) → ltb (l .count) 10 ≡ b → entries (rememberedOf l code) ≡ entered (entries l) code
+    go true e =
+        let n : l .count < length (l .codes) = omega (arith, ltb-true (l .count) 10 e) in
+        let m : l .count < length (set (l .codes) (l .count) code) = rw (length-set (l .codes) (l .count) code) n in
+        rw (size, e, add-one (l .count), take-suc (set (l .codes) (l .count) code) (l .count) 0 m, take-set-le (l .count) (l .codes) (l .count) code (omega arith), getD-set-same (l .codes) (l .count) code 0 n)
+    go false e =
+        let f : l .count ≡ 10 = omega (arith, ltb-false (l .count) 10 e) in
+        let d : length (drop 1 (l .codes) ++ (code ∷ [])) ≤ 10 = omega (arith, length-append (drop 1 (l .codes)) (code ∷ []), length-drop 1 (l .codes)) in
+        rw (size, e, f, take-all 10 (l .codes) (omega arith), take-all 10 _ d)
 
 -- ---- what a well-formed head is
 both : (a b : Bool) → (a && b) ≡ true → (a ≡ true) × (b ≡ true)
@@ -184,7 +233,7 @@ either-small true a b n p q = p
 either-small false a b n p q = q
 
 module _ (vs : List ℕ) (g : Measurement) (o : fitsIn (rowOf offsetPlace) (valueAt vs offsetPlace) ≡ true) (f : measurementFits g ≡ true) where
-  placed-small : natAbs (placedAt vs g) ≤ 5242880
+  placed-small : natAbs (positionBy vs g) ≤ 5242880
   unfolding positionOf
   placed-small =
       let w = measurement-told g f in
@@ -197,7 +246,7 @@ module _ (vs : List ℕ) (g : Measurement) (o : fitsIn (rowOf offsetPlace) (valu
   unfolding viewOf actualOf
   actual-small =
       either-small (ltb (valueAt vs applicationPlace) 2) _ _ 5242880
-      (omega (arith, placed-small, rounded-small (placedAt vs g) (valueAt vs divisorPlace)))
+      (omega (arith, placed-small, rounded-small (positionBy vs g) (valueAt vs divisorPlace)))
       placed-small
 
   pub shown-small : natAbs (viewOf vs g .shown) ≤ 5242880

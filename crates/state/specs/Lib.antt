@@ -1,5 +1,7 @@
 pub mod Settings
+pub mod Bits
 pub mod Errors
 pub mod Position
 pub mod Status
 pub mod Wellformed
+pub mod Edges

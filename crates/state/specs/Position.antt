@@ -23,13 +23,13 @@ actualOf p divisor application = cond (ltb application 2) (roundedOf p divisor) 
 unfoldable pub shownOf : ℤ → ℤ → ℕ → ℤ
 shownOf p a application = cond (eqb application 0) a p
 
--- both, of the stored values and the measurement
-abbrev pub placedAt : List ℕ → Measurement → ℤ
-placedAt vs g = positionOf g (valueAt vs offsetPlace)
+-- the position and A, by the stored values
+abbrev pub positionBy : List ℕ → Measurement → ℤ
+positionBy vs g = positionOf g (valueAt vs offsetPlace)
 
-abbrev pub actualAt : List ℕ → Measurement → ℤ
-actualAt vs g = actualOf (placedAt vs g) (valueAt vs divisorPlace) (valueAt vs applicationPlace)
+abbrev pub actualBy : List ℕ → Measurement → ℤ
+actualBy vs g = actualOf (positionBy vs g) (valueAt vs divisorPlace) (valueAt vs applicationPlace)
 
 unfoldable pub viewOf : List ℕ → Measurement → Readout
 viewOf vs g =
-    record { actual = actualAt vs g; shown = shownOf (placedAt vs g) (actualAt vs g) (valueAt vs applicationPlace) }
+    record { actual = actualBy vs g; shown = shownOf (positionBy vs g) (actualBy vs g) (valueAt vs applicationPlace) }

@@ -1,6 +1,6 @@
 -- The status word and the differential value (document 01, "Position and status").
 -- Assumes nothing.
-use Prim.Native.Nat.{ℕ, _+_, _*_, _%_}
+use Prim.Native.Nat.{ℕ, _+_, _*_, _%_, _^_}
 use mathlib.Core.Bool.{Bool, cond, not, _&&_}
 use mathlib.Core.List.{List}
 use lib.Dec.{leb, eqb}
@@ -12,6 +12,7 @@ use Rattle.state.specs.declared.parts.Head.{Head}
 use Rattle.state.specs.declared.parts.Measurement.{Measurement}
 use Rattle.state.specs.declared.parts.Targets.{Targets}
 use Rattle.state.specs.declared.status.Bearing.{Bearing}
+use Rattle.state.specs.Bits.{bit}
 use Rattle.state.specs.Settings.{valueAt, directionPlace, window1Place, window2Place, differencePlace}
 use Rattle.state.specs.Position.{viewOf}
 
@@ -23,48 +24,44 @@ clockwiseOf below above turned = cond turned above below
 unfoldable pub aimOf : List ℕ → ℤ → ℤ → Bearing
 aimOf vs a s =
     record {
-      near = leb (distanceOf a s) (valueAt vs window1Place);
-      far = leb (distanceOf a s) (valueAt vs window2Place);
+      inside1 = leb (distanceOf a s) (valueAt vs window1Place);
+      inside2 = leb (distanceOf a s) (valueAt vs window2Place);
       above = ltZ s a;
       clockwise = clockwiseOf (ltZ a s) (ltZ s a) (eqb (valueAt vs directionPlace) 1);
     }
 
--- the weight of a bit that is on
-abbrev pub bitOf : Bool → ℕ → ℕ
-bitOf on weight = cond on weight 0
-
 -- only with bit 10: 0 and 1 outside 20h, 3 within 31h, 5 within 20h, 6 A above S
 unfoldable pub aimBitsOf : Bool → Bearing → ℕ
 aimBitsOf valid g =
-    bitOf (valid && (not (g .near) && g .clockwise)) 1
-    + bitOf (valid && (not (g .near) && not (g .clockwise))) 2
-    + bitOf (valid && g .far) 8
-    + bitOf (valid && g .near) 32
-    + bitOf (valid && g .above) 64
+    bit 0 (valid && (not (g .inside1) && g .clockwise))
+    + bit 1 (valid && (not (g .inside1) && not (g .clockwise)))
+    + bit 3 (valid && g .inside2)
+    + bit 5 (valid && g .inside1)
+    + bit 6 (valid && g .above)
 
 -- 2 set point 1 valid, 4 static, 7 error pending, 8 frozen, 9 incremental, 10 set point 2 valid, 13 to 15 keys
 unfoldable pub restBitsOf : Targets → Bool → Bool → Bool → ℕ → ℕ
 restBitsOf t pending frozen incremental keys =
-    bitOf (t .valid1) 4
-    + bitOf (t .reached) 16
-    + bitOf pending 128
-    + bitOf frozen 256
-    + bitOf incremental 512
-    + bitOf (t .valid2) 1024
-    + keys % 8 * 8192
+    bit 2 (t .valid1)
+    + bit 4 (t .reached)
+    + bit 7 pending
+    + bit 8 frozen
+    + bit 9 incremental
+    + bit 10 (t .valid2)
+    + keys % 8 * 2 ^ 13
 
 -- S: set point 2, valid or not, read as signed; how A lies to it
-unfoldable pub aimedAt : List ℕ → Measurement → Targets → Bearing
-aimedAt vs g t = aimOf vs (viewOf vs g .actual) (numberOf (t .second))
+unfoldable pub aimedOf : List ℕ → Measurement → Targets → Bearing
+aimedOf vs g t = aimOf vs (viewOf vs g .actual) (numberOf (t .second))
 
 unfoldable pub statusOf : Head → ℕ
 statusOf h =
-    aimBitsOf (h .targets .valid2) (aimedAt (h .stored .values) (h .measurement) (h .targets))
+    aimBitsOf (h .targets .valid2) (aimedOf (h .stored .values) (h .measurement) (h .targets))
     + restBitsOf (h .targets) (not (eqb (h .faults .pending) 0)) (h .measurement .frozen) (h .measurement .incremental) (h .keys)
 
 -- bit 5 holds
 unfoldable pub withinOf : List ℕ → Measurement → Targets → Bool
-withinOf vs g t = t .valid2 && aimedAt vs g t .near
+withinOf vs g t = t .valid2 && aimedOf vs g t .inside1
 
 -- A - S if 34h is 0, else S - A, for the set point s
 unfoldable pub differenceOf : List ℕ → Measurement → ℕ → ℤ

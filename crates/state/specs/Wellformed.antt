@@ -2,8 +2,9 @@
 -- Assumes nothing.
 use mathlib.Core.Bool.{Bool, _&&_}
 use lib.Dec.{leb}
-use lib.IntN.{ℤ, pos, negsuc, natAbs}
+use lib.IntN.{ℤ, pos, natAbs}
 use lib.Signed.{leZ}
+use Rattle.signed.specs.Number.{minus}
 use Rattle.rows.specs.Table.{rowOf}
 use Rattle.rows.specs.Ranges.{fitsIn, allRightOf}
 use Rattle.state.specs.declared.parts.Head.{Head}
@@ -15,7 +16,7 @@ use Rattle.state.specs.Settings.{nodePlace, calibrationPlace}
 
 -- a measurement lies in -2,500,000..2,500,000
 unfoldable pub inReachOf : ℤ → Bool
-inReachOf m = leZ (negsuc 2499999) m && leZ m (pos 2500000)
+inReachOf m = leZ (minus 2500000) m && leZ m (pos 2500000)
 
 -- each stored value and the number in force in its row
 unfoldable pub storedFits : Stored → Bool

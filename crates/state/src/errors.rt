@@ -2,7 +2,7 @@
 use crate::parts::ErrorList;
 ghost use mathlib.Core.Path.{_≡_};
 ghost use lib.ListN.{getD};
-ghost use Rattle.state.specs.Errors.{emptyList, rememberedOf, codeAtOf};
+ghost use Rattle.state.specs.Errors.{emptyList, rememberedOf, entryOf};
 
 pub fn empty_list() -> ErrorList
     ensures { λ r. ⌜ r ≡ emptyList ⌝ }
@@ -44,8 +44,8 @@ pub fn remembered(list: ErrorList, code: u16) -> ErrorList
 }
 
 // The code at a place, 0 for the oldest; an empty place reads 0, whatever it holds.
-pub fn code_at(list: ErrorList, i: usize) -> u16
-    ensures { λ r. ⌜ r ≡ codeAtOf list i ⌝ }
+pub fn entry(list: ErrorList, i: usize) -> u16
+    ensures { λ r. ⌜ r ≡ entryOf list i ⌝ }
 {
     let codes = list.codes;
     if i < list.count as usize {

@@ -73,9 +73,9 @@ pub struct Head {
 }
 
 // The places of the parameters that a head itself goes by.
-pub struct At {}
+pub struct Setting {}
 
-impl At {
+impl Setting {
     pub const NODE: usize = 0;
 
     pub const BAUD: usize = 1;

@@ -1,6 +1,6 @@
 // The position, the actual value A, and what FEh shows.
-use crate::parts::At;
 use crate::parts::Measurement;
+use crate::parts::Setting;
 ghost use mathlib.Core.Path.{_≡_};
 ghost use Rattle.state.specs.Position.{positionOf, actualOf, shownOf, viewOf};
 
@@ -43,9 +43,9 @@ fn shown(p: i64, a: i64, application: u32) -> i64
 pub fn view(values: [u32; 39], m: Measurement) -> Readout
     ensures { λ r. ⌜ r ≡ viewOf values m ⌝ }
 {
-    let p = position(m, values[At::OFFSET]);
-    let a = actual(p, values[At::DIVISOR], values[At::APPLICATION]);
-    let f = shown(p, a, values[At::APPLICATION]);
+    let p = position(m, values[Setting::OFFSET]);
+    let a = actual(p, values[Setting::DIVISOR], values[Setting::APPLICATION]);
+    let f = shown(p, a, values[Setting::APPLICATION]);
     Readout {
         actual: a,
         shown: f,

@@ -1,19 +1,20 @@
 // The status word, and the differential value.
-use crate::parts::At;
 use crate::parts::Head;
 use crate::parts::Measurement;
+use crate::parts::Setting;
 use crate::parts::Targets;
 use crate::position;
 ghost use mathlib.Core.Path.{_≡_};
 ghost use mathlib.Core.Bool.{Bool};
-ghost use Prim.Native.Nat.{_≤_};
-ghost use Rattle.state.specs.Status.{clockwiseOf, aimOf, bitOf, aimBitsOf, restBitsOf, aimedAt, statusOf, withinOf, differenceOf};
+ghost use Prim.Native.Nat.{_^_, _≤_, _<_};
+ghost use Rattle.state.specs.Bits.{bit};
+ghost use Rattle.state.specs.Status.{clockwiseOf, aimOf, aimBitsOf, restBitsOf, aimedOf, statusOf, withinOf, differenceOf};
 
-// How A lies to set point 2.
+// How A lies to set point 2: inside target window 1 (20h), inside window 2 (31h), above it, and the way to go.
 #[repr(C)]
 pub struct Bearing {
-    pub near: bool,
-    pub far: bool,
+    pub inside1: bool,
+    pub inside2: bool,
     pub above: bool,
     pub clockwise: bool,
 }
@@ -30,28 +31,30 @@ pub fn aim(values: [u32; 39], a: i64, s: i64) -> Bearing
 {
     let d = signed::distance(a, s);
     Bearing {
-        near: d <= values[At::WINDOW1] as u64,
-        far: d <= values[At::WINDOW2] as u64,
+        inside1: d <= values[Setting::WINDOW1] as u64,
+        inside2: d <= values[Setting::WINDOW2] as u64,
         above: s < a,
-        clockwise: clockwise(a < s, s < a, values[At::DIRECTION] == 1),
+        clockwise: clockwise(a < s, s < a, values[Setting::DIRECTION] == 1),
     }
 }
 
-fn bit(on: bool, value: u16) -> u16
-    ensures { λ r. ⌜ (r ≡ bitOf on value) × (r ≤ value) ⌝ }
+// The word that has bit n alone where it is on, and else none.
+fn bit(n: u32, on: bool) -> u16
+    requires { ⌜ n < 16 ⌝ }
+    ensures { λ r. ⌜ (r ≡ bit n on) × (r ≤ 2 ^ n) ⌝ }
 {
-    if on { value } else { 0 }
+    if on { 1 << n } else { 0 }
 }
 
 // Bits 0, 1, 3, 5 and 6: only with bit 10.
 fn aim_bits(valid: bool, m: Bearing) -> u16
     ensures { λ r. ⌜ (r ≡ aimBitsOf valid m) × (r ≤ 107) ⌝ }
 {
-    let b0 = bit(valid & (!m.near & m.clockwise), 1);
-    let b1 = bit(valid & (!m.near & !m.clockwise), 2);
-    let b3 = bit(valid & m.far, 8);
-    let b5 = bit(valid & m.near, 32);
-    let b6 = bit(valid & m.above, 64);
+    let b0 = bit(0, valid & (!m.inside1 & m.clockwise));
+    let b1 = bit(1, valid & (!m.inside1 & !m.clockwise));
+    let b3 = bit(3, valid & m.inside2);
+    let b5 = bit(5, valid & m.inside1);
+    let b6 = bit(6, valid & m.above);
     b0 + b1 + b3 + b5 + b6
 }
 
@@ -59,18 +62,18 @@ fn aim_bits(valid: bool, m: Bearing) -> u16
 fn rest_bits(t: Targets, pending: bool, frozen: bool, incremental: bool, keys: u32) -> u16
     ensures { λ r. ⌜ (r ≡ restBitsOf t pending frozen incremental keys) × (r ≤ 59284) ⌝ }
 {
-    let b2 = bit(t.valid1, 4);
-    let b4 = bit(t.reached, 16);
-    let b7 = bit(pending, 128);
-    let b8 = bit(frozen, 256);
-    let b9 = bit(incremental, 512);
-    let b10 = bit(t.valid2, 1024);
-    b2 + b4 + b7 + b8 + b9 + b10 + (keys % 8) as u16 * 8192
+    let b2 = bit(2, t.valid1);
+    let b4 = bit(4, t.reached);
+    let b7 = bit(7, pending);
+    let b8 = bit(8, frozen);
+    let b9 = bit(9, incremental);
+    let b10 = bit(10, t.valid2);
+    b2 + b4 + b7 + b8 + b9 + b10 + (keys % 8) as u16 * (1 << 13)
 }
 
 // How A lies to S, set point 2, valid or not.
 fn aimed(values: [u32; 39], m: Measurement, t: Targets) -> Bearing
-    ensures { λ r. ⌜ r ≡ aimedAt values m t ⌝ }
+    ensures { λ r. ⌜ r ≡ aimedOf values m t ⌝ }
 {
     let w = position::view(values, m);
     aim(values, w.actual, signed::number(t.second))
@@ -93,7 +96,7 @@ pub fn within(values: [u32; 39], m: Measurement, t: Targets) -> bool
     ensures { λ r. ⌜ r ≡ withinOf values m t ⌝ }
 {
     let g = aimed(values, m, t);
-    t.valid2 & g.near
+    t.valid2 & g.inside1
 }
 
 // The differential value for the set point s.
@@ -101,6 +104,6 @@ pub fn difference(values: [u32; 39], m: Measurement, s: u32) -> i64
     ensures { λ r. ⌜ r ≡ differenceOf values m s ⌝ }
 {
     let w = position::view(values, m);
-    let reversed = values[At::DIFFERENCE] == 1;
+    let reversed = values[Setting::DIFFERENCE] == 1;
     signed::differential(w.actual, signed::number(s), reversed)
 }

@@ -1,4 +1,4 @@
--- `script::named` meets its contract: one call for each name of the definition, the last name first.
+-- `script::named` meets its contract: one call for each name of the definition.
 -- Assumes nothing.
 use borrow.Author.Needs.{needs}
 use Rattle.script.specs.Meaning.{nameOf}
@@ -8,20 +8,20 @@ use Rattle.script.proofs.named.Tie as tie
 returns : tie.Need-returns
 unfolding nameOf
 returns c =
-    let send = c .before .before in
-    let tick = send .before .before in
-    let measure = tick .before .before in
-    let keys = measure .before .before in
-    let power = keys .before .before in
-    let space = power .before .before in
+    let power = c .before .before in
+    let keys = power .before .before in
+    let measure = keys .before .before in
+    let tick = measure .before .before in
+    let send = tick .before .before in
+    let head = send .before .before in
     simp (
       c .called7 .ensures,
-      send .called6 .ensures,
-      tick .called5 .ensures,
+      power .called6 .ensures,
+      keys .called5 .ensures,
       measure .called4 .ensures,
-      keys .called3 .ensures,
-      power .called2 .ensures,
-      space .called .ensures,
+      tick .called3 .ensures,
+      send .called2 .ensures,
+      head .called .ensures,
     )
 
 pub named-spec : {M : Type 1} → statement M

@@ -3,12 +3,12 @@
 use mathlib.Core.Path.{_≡_, _∙_, sym, ap}
 use mathlib.Core.Bool.{Bool}
 use native.Mathlib.Omega.{arith}
-use lib.IntN.{ℤ, pos, natAbs, negℤ, _-ℤ_}
+use lib.IntN.{ℤ, pos, natAbs, _-ℤ_}
 use lib.Signed.{ltZ}
 use mir.Syntax.{w64}
 use mir.Val.{toZ, ofZ}
 use mir.Facts.{toZ-ofZ, toZ-pos}
-use Rattle.signed.specs.Number.{distanceOf}
+use Rattle.signed.specs.Number.{minus, distanceOf}
 use Rattle.signed.proofs.Sizes.{minus-size, plus-size}
 use Rattle.signed.proofs.Differences.{less-sub}
 use Rattle.signed.proofs.Laws.{held-same, held-low, held-high}
@@ -38,7 +38,7 @@ difference-spec =
     sym (held-low (gap k) (sign k (c .before .if1 .taken)) (omega (arith, long k))))
     (λ c κs. search needs)
     (λ c. let k = c .before .before .before in
-    back _ (c .minus .ok) ∙ c .minus .ensures ∙ ap (λ n. negℤ (pos n)) (long k) ∙ minus-size (gap k) (sign k (c .before .before .if1 .taken))
+    back _ (c .minus .ok) ∙ c .minus .ensures ∙ ap minus (long k) ∙ minus-size (gap k) (sign k (c .before .before .if1 .taken))
     ∙ sym (held-same (gap k) (omega (arith, long k))))
     (λ c. let k = c .before .before in
     sym (held-high (gap k) (sign k (c .before .if1 .left)) (omega (arith, long k))))

@@ -3,16 +3,17 @@
 use Prim.Native.Nat.{ℕ, zero, suc, _-_, _≤_, _<_}
 use mathlib.Core.Path.{_≡_, _∙_, ap}
 use native.Mathlib.Omega.{arith}
-use lib.IntN.{pos, negsuc, negℤ, _-ℤ_}
+use lib.IntN.{negsuc, _-ℤ_}
 use mir.Syntax.{w64}
 use mir.Val.{SFits, toZ}
 use mir.Facts.{toZ-pos, toZ-ofZ}
+use Rattle.signed.specs.Number.{minus}
 use Rattle.signed.proofs.Differences.{neg-sub}
 use borrow.Author.Needs.{needs}
 use Rattle.signed.proofs.minus.Statement.{statement}
 use Rattle.signed.proofs.minus.Tie as tie
 
-minus-is : (n : ℕ) → 0 < n → n ≤ 9223372036854775808 → negsuc 0 -ℤ toZ w64 (n - 1) ≡ negℤ (pos n)
+minus-is : (n : ℕ) → 0 < n → n ≤ 9223372036854775808 → negsuc 0 -ℤ toZ w64 (n - 1) ≡ minus n
 minus-is zero p h = absurd (omega arith)
 minus-is (suc n) p h = rw (toZ-pos w64 {n = suc n - 1} (omega arith)) (neg-sub 0 (suc n - 1) ∙ ap negsuc (omega arith))
 

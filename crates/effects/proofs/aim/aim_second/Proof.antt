@@ -1,4 +1,4 @@
--- `effects::aim::aim_second` meets its contract: the bits are what `taken` says.
+-- `effects::aim::aim_second` meets its contract: the bits are what `bit` says.
 -- Assumes nothing.
 use Rattle.effects.specs.Aimed.{secondAimed}
 use borrow.Author.Needs.{needs}
@@ -12,4 +12,4 @@ aim-second-spec =
     (tie.spec
     (λ c κs. search needs)
     (λ c κs. search needs)
-    (λ c. rw (c .before .taken2 .ensures, c .before .before .taken .ensures)))
+    (λ c. rw (c .before .bit2 .ensures, c .before .before .bit .ensures)))

@@ -1,6 +1,5 @@
 -- `effects::aim::targets_by` meets its contract: each arm is the definition's case of that deed.
 -- Assumes nothing.
-use mathlib.Core.Path.{_∙_}
 use Rattle.effects.specs.Aimed.{targetsBy}
 use Rattle.effects.proofs.Rest.{targets-rest}
 use borrow.Author.Needs.{needs}
@@ -19,10 +18,7 @@ targets-by-spec =
     (λ c κs. search needs)
     (λ c. search needs)
     (λ c κs. search needs)
-    (λ c. search needs)
-    (λ c κs. search needs)
     (λ c. rw (c .aim-first .ensures, c .before .before .d .given .1))
     (λ c. rw (c .settled .ensures, c .before .aim-second .ensures, c .before .before .before .d2 .given .1))
     (λ c. rw (c .cleared .ensures, c .before .enum-told .given .1))
-    (λ c. rw (c .no-targets .ensures, c .before .enum-told2 .given .1))
-    (λ c. targets-rest (c .before .args .d) _ _ _ (c .match .keys5)))
+    (λ c. targets-rest (c .before .args .d) _ _ _ (c .match .keys4)))

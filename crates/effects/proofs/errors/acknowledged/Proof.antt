@@ -1,4 +1,4 @@
--- `effects::errors::acknowledged` meets its contract: the test is what `taken` says of both words.
+-- `effects::errors::acknowledged` meets its contract: the test is what `bit` says of both words.
 -- Assumes nothing.
 use Rattle.effects.specs.Faults.{acknowledgedOf}
 use borrow.Author.Needs.{needs}
@@ -12,5 +12,5 @@ acknowledged-spec =
     (tie.spec
     (λ c κs. search needs)
     (λ c κs. search needs)
-    (λ c. rw (← c .before .before .taken .ensures, ← c .before .taken2 .ensures, c .if1 .taken))
-    (λ c. rw (← c .before .before .taken .ensures, ← c .before .taken2 .ensures, c .if1 .left)))
+    (λ c. rw (← c .before .before .bit .ensures, ← c .before .bit2 .ensures, c .if1 .taken))
+    (λ c. rw (← c .before .before .bit .ensures, ← c .before .bit2 .ensures, c .if1 .left)))

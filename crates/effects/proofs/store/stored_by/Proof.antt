@@ -1,8 +1,7 @@
 -- `effects::store::stored_by` meets its contract: each arm is the definition's case of that deed.
 -- Assumes nothing.
-use mathlib.Core.Path.{_≡_, _∙_}
+use mathlib.Core.Path.{_≡_}
 use Prim.Native.Nat.{_≤_}
-use borrow.Author.Needs.{needs}
 use lib.ListN.{length}
 use Rattle.effects.specs.Stored.{storedBy}
 use Rattle.effects.proofs.Resets.{set-past}
@@ -22,8 +21,6 @@ stored-by-spec =
     (λ c. search needs)
     (λ c κs. search needs)
     (λ c. search needs)
-    (λ c. search needs)
-    (λ c κs. search needs)
     (λ c. rw (c .before .before .d .given .1))
     (λ c. let k = c .before .before in
     let e : length (k .before .before .args .s .values) ≡ 39 = search needs in
@@ -31,5 +28,4 @@ stored-by-spec =
     rw (k .d .given .1, set-past _ _ _ h))
     (λ c. rw (c .reset .ensures, c .before .before .before .d2 .given .1))
     (λ c. rw (c .before .d3 .given .1))
-    (λ c. rw (c .restarted .ensures, c .before .enum-told .given .1))
-    (λ c. stored-rest (c .before .args .d) _ (c .match .keys5)))
+    (λ c. stored-rest (c .before .args .d) _ (c .match .keys4)))

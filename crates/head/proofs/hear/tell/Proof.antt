@@ -1,6 +1,8 @@
--- `head::hear::tell` meets its contract by those of its callees: judged, answered from the head before, and told.
+-- `head::hear::tell` meets its contract: the short way by its law, the other by the callees': judged, answered from the head before, and told.
 -- Assumes nothing.
+use mathlib.Core.Path.{sym, ap, _∙_}
 use Rattle.head.specs.Hear.{tellOf}
+use Rattle.head.proofs.Passes.{unanswered, passes-tell}
 use borrow.Author.Needs.{needs}
 use Rattle.head.proofs.hear.tell.Statement.{statement}
 use Rattle.head.proofs.hear.tell.Tie as tie
@@ -10,6 +12,11 @@ unfolding tellOf
 tell-spec =
     tie.close
     (tie.spec
+    (λ c κs. search needs)
+    (λ c κs. search needs)
+    (λ c. let k = c .before .before in
+    let p = sym (k .passes .ensures) ∙ c .before .if1 .taken in
+    ap unanswered (c .passed .ensures) ∙ sym (passes-tell _ (k .before .before .args .h) _ p))
     (λ c κs. search needs)
     (λ c κs. search needs)
     (λ c κs. search needs)

@@ -27,7 +27,6 @@ late-spec =
     (λ c κs. search needs)
     (λ c κs. search needs)
     (λ c κs. search needs)
-    (λ c κs. search needs)
     (λ c. simp (
       c .hush .ensures,
       c .before .first6 .ensures,
@@ -44,7 +43,6 @@ late-spec =
       c .before .before .before .before .before .before .before .before .before .before .before .before .broadcast .ensures,
       c .before .before .before .before .before .before .before .before .before .before .before .before .before .check-parameter .ensures,
       c .before .before .before .before .before .before .before .before .before .before .before .before .before .before .check-command .ensures,
-      c .before .before .before .before .before .before .before .before .before .before .before .before .before .before .before .kind-of .ensures,
-      c .before .before .before .before .before .before .before .before .before .before .before .before .before .before .before .before .access-of .ensures,
-      c .before .before .before .before .before .before .before .before .before .before .before .before .before .before .before .before .before .command-of .ensures,
+      c .before .before .before .before .before .before .before .before .before .before .before .before .before .before .before .access-of .ensures,
+      c .before .before .before .before .before .before .before .before .before .before .before .before .before .before .before .before .command-of .ensures,
     )))

@@ -1,10 +1,9 @@
--- `line::calls::measure` meets its contract: each way out is a case of the definition, by what the tests gave.
+-- `line::calls::measure` meets its contract: the call on that head alone, put back.
 -- Assumes nothing.
-use mathlib.Core.Path.{_∙_, sym}
+use mathlib.Core.Path.{_∙_}
 use mir.Syntax.{w32}
 use mir.Facts.{toZ-ofZ}
 use Rattle.line.specs.Calls.{measureOf}
-use Rattle.line.proofs.Laws.{named-malformed, named-none, named-there}
 use Rattle.line.proofs.calls.measure.Statement.{statement}
 use Rattle.line.proofs.calls.measure.Tie as tie
 
@@ -12,39 +11,7 @@ pub measure-spec : {M : Type 1} → statement M
 unfolding measureOf
 measure-spec =
     tie.close
-    (tie.spec
-    (λ c κs. tt)
-    (λ c κs. tt)
-    (λ c κs. tt)
-    (λ c κs. tt)
-    (λ c κs. tt)
-    (λ c κs. tt)
-    (λ c κs. tt)
-    (λ c. let k = c .before .before .before .before .before in
-    let t = k .before .before in
-    let f = t .before .before in
-    let a = f .before .args in
-    let z = toZ-ofZ {w = w32} {z = a .m} (f .before .fits .m) in
-    let r = rw z at (sym (k .in-reach .ensures) ∙ c .before .before .before .before .if3 .taken) in
-    let h = rw (c .before .before .before .head-at .ensures, z) at (c .before .before .measured .ensures) in
-    c .done .ensures
-    ∙ rw (c .before .placed .ensures, h, r)
-    (named-there (a .l) (a .i) _ (f .fits2 .ensures) (t .before .if1 .taken) (t .has .ensures) (k .before .if2 .taken)))
-    (λ c κs. tt)
-    (λ c. let k = c .before .before in
-    let t = k .before .before in
-    let f = t .before .before in
-    let a = f .before .args in
-    let z = toZ-ofZ {w = w32} {z = a .m} (f .before .fits .m) in
-    let r = rw z at (sym (k .in-reach .ensures) ∙ c .before .if3 .left) in
-    c .refused .ensures
-    ∙ rw r (named-there (a .l) (a .i) _ (f .fits2 .ensures) (t .before .if1 .taken) (t .has .ensures) (k .before .if2 .taken)))
-    (λ c κs. tt)
-    (λ c. let t = c .before .before in
-    let f = t .before .before in
-    let a = f .before .args in
-    c .refused2 .ensures ∙ named-none (a .l) (a .i) _ (f .fits2 .ensures) (t .before .if1 .taken) (t .has .ensures) (c .before .if2 .left))
-    (λ c κs. tt)
-    (λ c. let f = c .before .before in
-    let a = f .before .args in
-    c .refused3 .ensures ∙ named-malformed (a .l) (a .i) _ (f .fits2 .ensures) (c .before .if1 .left)))
+    (tie.spec (λ c κs. tt) (λ c κs. tt) (λ c κs. tt)
+    (λ c. let k = c .before .before .before in
+    c .named .ensures
+    ∙ rw (c .before .measure .ensures, c .before .before .head-at .ensures, toZ-ofZ {w = w32} {z = k .args .m} (k .fits .m))))

@@ -2,7 +2,8 @@
 -- Assumes nothing.
 use mathlib.Core.Path.{ap}
 use native.Mathlib.Omega.{arith}
-use Rattle.rows.specs.declared.kind.Kind.the-variants.{ErrorAt}
+use Rattle.rows.specs.declared.kind.Kind.the-variants.{ReadOnly}
+use Rattle.rows.specs.declared.kind.Shown.the-variants.{ErrorAt}
 use borrow.Author.Needs.{needs}
 use Rattle.rows.proofs.kind.error_at.Statement.{statement}
 use Rattle.rows.proofs.kind.error_at.Tie as tie
@@ -13,4 +14,4 @@ error-at-spec =
     (tie.spec
     (λ c. search needs)
     (λ c. search needs)
-    (λ c. ap ErrorAt (omega arith)))
+    (λ c. ap (λ i. ReadOnly (ErrorAt i)) (omega arith)))

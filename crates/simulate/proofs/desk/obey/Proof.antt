@@ -9,10 +9,9 @@ use mir.Facts.{toZ-ofZ}
 use Rattle.line.specs.declared.calls.Called.{Called}
 use Rattle.line.specs.Calls.{measureOf}
 use Rattle.script.specs.declared.Command.{Command}
-use Rattle.script.specs.declared.Command.the-variants as command
 use Rattle.script.specs.Meaning.{meaningOf}
 use Rattle.simulate.specs.declared.desk.Desk.{Desk}
-use Rattle.simulate.specs.Desk.{didOf, calledOf, sendOf, obeyedOf}
+use Rattle.simulate.specs.Desk.{didOf, calledOf, obeyedOf}
 use Rattle.simulate.proofs.desk.obey.Statement.{statement}
 use Rattle.simulate.proofs.desk.obey.Tie as tie
 
@@ -21,11 +20,7 @@ did : (d : Desk) (text : List ℕ) (m n : Command) → m ≡ meaningOf text → 
 unfolding obeyedOf
 did d text m n e f = ap (λ (k : Command). didOf k text d) (sym f ∙ e)
 
--- a send, and a call that the meaning names
-sent : {m : Command} (d : Desk) (text : List ℕ) (x : Desk) (time from count : ℕ) → x ≡ sendOf d text time from count → m ≡ meaningOf text
-    → m ≡ command.Send time from count → x ≡ obeyedOf d text
-sent d text x time from count p s t = p ∙ did d text _ _ s t
-
+-- a call that the meaning names
 called : {m n : Command} (d : Desk) (text : List ℕ) (x : Desk) (c e : Called) → x ≡ calledOf d c → c ≡ e → m ≡ meaningOf text → m ≡ n
     → calledOf d e ≡ didOf n text d → x ≡ obeyedOf d text
 called d text x c e p q s t u = p ∙ ap (calledOf d) q ∙ u ∙ did d text _ _ s t
@@ -63,24 +58,17 @@ obey-spec =
     (λ c. did _ _ _ _ (c .before .before .meaning .ensures) (c .enum-told .given .1))
     (λ c. did _ _ _ _ (c .before .before .before .meaning .ensures) (c .before .enum-told2 .given .1))
     (λ c. let k = c .before .before .before in
-    let d = k .before .before .before .before .args .d in
-    called d (k .before .before .before .before .args .text .now) _ _ _ (c .done .ensures) (c .before .grow .ensures) (k .before .before .meaning .ensures) (k .node .given .1) refl)
-    (λ c. let k = c .before .before in
-    let a = k .before .before .before .before .args in
-    let w = k .time .given .0 in
-    sent (a .d) (a .text .now) (c .send .result .desk) (w .0) (w .1 .0) (w .1 .1 .0) (c .send .ensures) (k .before .before .meaning .ensures) (k .time .given .1))
+    called (k .before .before .before .before .args .d) _ _ _ _ (c .done .ensures) (c .before .grow .ensures) (k .before .before .meaning .ensures) (k .node .given .1) refl)
+    (λ c. let k = c .before .before in rw (c .send .ensures) (did _ _ _ _ (k .before .before .meaning .ensures) (k .time .given .1)))
     (λ c. let k = c .before .before .before in
-    let d = k .before .before .before .before .args .d in
-    called d (k .before .before .before .before .args .text .now) _ _ _ (c .done2 .ensures) (c .before .tick .ensures) (k .before .before .meaning .ensures) (k .time2 .given .1) refl)
+    called (k .before .before .before .before .args .d) _ _ _ _ (c .done2 .ensures) (c .before .tick .ensures) (k .before .before .meaning .ensures) (k .time2 .given .1) refl)
     (λ c. let k = c .before .before .before in
     let d = k .before .before .before .before .args .d in
     let back = toZ-ofZ {w = w32} {z = k .head .given .0 .1 .0} (record { sfits = c .before .before .known-told4 .given .1 .0 .1 }) in
-    called d (k .before .before .before .before .args .text .now) _ _ _ (c .done3 .ensures)
+    called d _ _ _ _ (c .done3 .ensures)
     (c .before .measure .ensures ∙ ap (measureOf (d .line) (k .head .given .0 .0)) back) (k .before .before .meaning .ensures) (k .head .given .1) refl)
     (λ c. let k = c .before .before .before in
-    let d = k .before .before .before .before .args .d in
-    called d (k .before .before .before .before .args .text .now) _ _ _ (c .done4 .ensures) (c .before .keys .ensures) (k .before .before .meaning .ensures) (k .head2 .given .1) refl)
+    called (k .before .before .before .before .args .d) _ _ _ _ (c .done4 .ensures) (c .before .keys .ensures) (k .before .before .meaning .ensures) (k .head2 .given .1) refl)
     (λ c. let k = c .before .before .before in
-    let d = k .before .before .before .before .args .d in
-    called d (k .before .before .before .before .args .text .now) _ _ _ (c .done5 .ensures) (c .before .power .ensures) (k .before .before .meaning .ensures) (k .head3 .given .1) refl)
+    called (k .before .before .before .before .args .d) _ _ _ _ (c .done5 .ensures) (c .before .power .ensures) (k .before .before .meaning .ensures) (k .head3 .given .1) refl)
     (λ c. let k = c .before .before in c .spaced .ensures ∙ did _ _ _ _ (k .before .before .meaning .ensures) (k .size .given .1)))

@@ -1,13 +1,13 @@
 -- `state::status::aimed` meets its contract by those of its callees.
 -- Assumes nothing.
 use Rattle.signed.proofs.Signed.{back}
-use Rattle.state.specs.Status.{aimedAt}
+use Rattle.state.specs.Status.{aimedOf}
 use borrow.Author.Needs.{needs}
 use Rattle.state.proofs.status.aimed.Statement.{statement}
 use Rattle.state.proofs.status.aimed.Tie as tie
 
 pub aimed-spec : {M : Type 1} → statement M
-unfolding aimedAt
+unfolding aimedOf
 aimed-spec =
     tie.close
     (tie.spec

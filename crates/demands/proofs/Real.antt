@@ -1,0 +1,37 @@
+-- The calls are the product's: each contract is the equation that the product has for it.
+-- Assumes nothing.
+use mathlib.Core.Path.{_≡_, _∙_, refl}
+use Rattle.effects.specs.Restart.{freshOf}
+use Rattle.head.specs.Calls.{madeOf, factoryOf}
+use Rattle.head.specs.Outcome.{called}
+use Rattle.demands.specs.Run.{product, askOf}
+use Rattle.demands.specs.Real.{Real}
+use Rattle.demands.proofs.Computing.{computing}
+
+factory-made : factoryOf ≡ madeOf 31 .head
+unfolding computing
+factory-made = refl
+
+pub real : Real product
+unfolding called askOf
+real =
+    record {
+      factory = λ κs a y u p. p ∙ factory-made;
+      make = λ κs a y u p. p;
+      byte = λ κs a y u p. p;
+      tick = λ κs a y u p. p;
+      measure = λ κs a y u p. p;
+      keys = λ κs a y u p. p;
+      power = λ κs a y u p. p;
+      number-in-force = λ κs a y u p. p;
+      baud-in-force = λ κs a y u p. p;
+      number = λ κs a y u p. p;
+      empty = λ κs a y u p. p;
+      count = λ κs a y u p. p;
+      grow = λ κs a y u p. p;
+      line-byte = λ κs a y u p. p;
+      line-tick = λ κs a y u p. p;
+      line-measure = λ κs a y u p. p;
+      line-keys = λ κs a y u p. p;
+      line-power = λ κs a y u p. p;
+    }

@@ -1,0 +1,100 @@
+-- The sorts of an address that the account tells apart: one of the 39, A0h, A8h, and any other, a telegram to which stores nothing. What the
+-- account asks of an address is found from its sort.
+-- Assumes nothing.
+use Prim.Native.Nat.{ℕ, _<_}
+use mathlib.Core.Path.{_≡_, refl, sym, _∙_}
+use mathlib.Core.Bool.{Bool, true, false, true≢false}
+use native.Mathlib.Omega.{arith}
+use borrow.Author.Tests.{eqb-true, eqb-false, eq-eqb, ne-eqb}
+use lib.Dec.{eqb}
+use Rattle.rows.specs.declared.table.Place.{Place}
+use Rattle.rows.specs.declared.table.Place.the-variants.{At, Nowhere}
+use Rattle.rows.specs.declared.access.Access.the-variants.{ReadOnly}
+use Rattle.rows.specs.declared.kind.Kind.the-variants.{Stored, WriteOnly}
+use Rattle.rows.specs.declared.kind.Order.{Order}
+use Rattle.rows.specs.declared.kind.Order.the-variants.{System, Calibration, Interlock, Freezing}
+use Rattle.rows.specs.Table.{rows, rowOf, address, placeOf}
+use Rattle.rows.specs.Access.{accessOf}
+use Rattle.rows.specs.Kinds.{otherOf, kindOf}
+use Rattle.rows.proofs.Groups.{orderAt, other-has}
+use Rattle.rows.proofs.Laws.{place-address, row-place}
+use Rattle.judge.specs.Deeds.{doneBy}
+use Rattle.state.specs.declared.parts.Stored as parts
+use Rattle.effects.specs.Stored.{storedBy}
+use Rattle.head.specs.Hear.{restartsOf}
+use Rattle.head.proofs.Again.{storedAfter}
+
+-- the sorts
+pub data Sort (a : ℕ) : Type 0 where
+  value : (i : ℕ) → placeOf a ≡ At i → Sort a
+  system : a ≡ 0xA0 → Sort a
+  interlock : a ≡ 0xA8 → Sort a
+  other : placeOf a ≡ Nowhere → eqb a 0xA0 ≡ false → eqb a 0xA8 ≡ false → Sort a
+
+pub sortOf : (a : ℕ) → Sort a
+sortOf a = go (placeOf a) refl (eqb a 0xA0) refl (eqb a 0xA8) refl
+  where
+    go : (p : Place) → placeOf a ≡ p → (x : Bool) → eqb a 0xA0 ≡ x → (y : Bool) → eqb a 0xA8 ≡ y → Sort a
+    go (At i) e x p y q = value i e
+    go Nowhere e true p y q = system (eqb-true a 0xA0 p)
+    go Nowhere e false p true q = interlock (eqb-true a 0xA8 q)
+    go Nowhere e false p false q = other e p q
+
+-- ---- what stands behind an address, by its sort
+pub value-kind : (a i : ℕ) → placeOf a ≡ At i → kindOf a ≡ Stored i
+unfolding kindOf
+value-kind a i e = rw e
+
+pub system-kind : kindOf 0xA0 ≡ WriteOnly System
+unfolding kindOf placeOf rows otherOf
+system-kind = refl
+
+pub interlock-kind : kindOf 0xA8 ≡ WriteOnly Interlock
+unfolding kindOf placeOf rows otherOf
+interlock-kind = refl
+
+pub other-still : (v w : ℕ) (st : parts.Stored) (a : ℕ) → placeOf a ≡ Nowhere → eqb a 0xA0 ≡ false → eqb a 0xA8 ≡ false
+    → storedAfter (doneBy (kindOf a) v w) st ≡ st
+unfolding kindOf storedAfter storedBy restartsOf doneBy
+other-still v w st a e p q = rw e (other-has (λ k. storedAfter (doneBy k v w) st ≡ st) a refl refl (λ s. refl) order refl)
+  where
+    order : (o : Order) → eqb a (orderAt o) ≡ true → storedAfter (doneBy (WriteOnly o) v w) st ≡ st
+    order System is = absurd (true≢false (sym is ∙ p))
+    order Calibration is = refl
+    order Interlock is = absurd (true≢false (sym is ∙ q))
+    order Freezing is = refl
+
+-- A0h and A8h are none of the 39
+pub system-nowhere : placeOf 0xA0 ≡ Nowhere
+unfolding placeOf rows
+system-nowhere = refl
+
+pub interlock-nowhere : placeOf 0xA8 ≡ Nowhere
+unfolding placeOf rows
+interlock-nowhere = refl
+
+-- ---- which address is that of place r
+not-at : {p : Place} {i : ℕ} → p ≡ Nowhere → p ≡ At i → ⊥
+not-at e f = let z : _≡_ {A = ℕ} 0 1 = cc in omega arith
+
+pub nowhere-apart : (a r : ℕ) → placeOf a ≡ Nowhere → r < 39 → eqb a (address (rowOf r)) ≡ false
+nowhere-apart a r e lt = ne-eqb a _ (λ q. not-at (rw q at e) (row-place r lt))
+
+pub value-same : (a i r : ℕ) → placeOf a ≡ At i → r < 39 → eqb a (address (rowOf r)) ≡ eqb r i
+value-same a i r e lt = go (eqb r i) refl
+  where
+    go : (x : Bool) → eqb r i ≡ x → eqb a (address (rowOf r)) ≡ x
+    go true q = eq-eqb a _ (rw (eqb-true r i q) (sym (place-address a e)))
+    go false q =
+        ne-eqb a _ (λ s. let f : At r ≡ At i = sym (row-place r lt) ∙ rw s at e in let same : r ≡ i = cc in eqb-false r i q same)
+
+pub value-system : (a i : ℕ) → placeOf a ≡ At i → eqb a 0xA0 ≡ false
+value-system a i e = ne-eqb a 0xA0 (λ q. not-at system-nowhere (rw q at e))
+
+pub value-interlock : (a i : ℕ) → placeOf a ≡ At i → eqb a 0xA8 ≡ false
+value-interlock a i e = ne-eqb a 0xA8 (λ q. not-at interlock-nowhere (rw q at e))
+
+-- ---- the one address whose reads have a check of their own is read only
+pub number-access : (a : ℕ) → eqb a 0x96 ≡ true → accessOf a ≡ ReadOnly
+unfolding accessOf rows
+number-access a e = rw (eqb-true a 0x96 e)

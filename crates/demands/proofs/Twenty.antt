@@ -1,0 +1,64 @@
+-- When refusal 20 is given: each clause is one of the tests.
+-- Assumes nothing.
+use Prim.Native.Nat.{ℕ, zero, suc, _<_}
+use mathlib.Core.Path.{_≡_, refl, _∙_}
+use mathlib.Core.Bool.{true}
+use mathlib.Core.List.{List, [], _∷_}
+use native.Mathlib.Omega.{arith}
+use lib.ListN.{getD}
+use Rattle.rows.proofs.Laws.{node-limits, node-fits}
+use Rattle.state.specs.declared.parts.Head.{Head}
+use Rattle.state.specs.Wellformed.{wellformedOf}
+use Rattle.state.proofs.Laws.{reach-small, small-reach, stored-told, stored-holds, faults-told, faults-holds, measurement-told, measurement-holds, ear-told, ear-holds, told, holds}
+use Rattle.head.specs.Calls.{factoryOf}
+use Rattle.line.specs.Round.{allFit}
+use Rattle.line.proofs.Laws.{fits-small, fits-eight}
+use Rattle.line.proofs.Theorems.{well-at}
+use Rattle.demands.specs.Twenty.{Formed, Twenty}
+
+passed : (h : Head) → wellformedOf h ≡ true → Formed h
+passed h e =
+    let w = told h e in
+    let s = stored-told (h .stored) (w .stored) in
+    let f = faults-told (h .faults) (w .faults) in
+    let g = measurement-told (h .measurement) (w .measurement) in
+    record {
+      values = s .values;
+      number = node-limits (h .stored .number) (s .number);
+      adopted = g .adopted;
+      memory = f .memory;
+      inputs = f .inputs;
+      damaged = f .damaged;
+      gathered = ear-told (h .ear) (w .ear);
+      keys = w .keys;
+      m = reach-small _ (g .m);
+      zero = reach-small _ (g .zero);
+      start = reach-small _ (g .start);
+      kept = g .kept;
+    }
+
+passes : (h : Head) → Formed h → wellformedOf h ≡ true
+passes h f =
+    holds h
+    (record {
+      stored = stored-holds (h .stored) (record { values = f .values; number = node-fits (h .stored .number) (f .number .0) (f .number .1) });
+      faults = faults-holds (h .faults) (record { memory = f .memory; inputs = f .inputs; damaged = f .damaged });
+      measurement = measurement-holds (h .measurement)
+          (record { m = small-reach _ (f .m); zero = small-reach _ (f .zero); start = small-reach _ (f .start); adopted = f .adopted; kept = f .kept });
+      ear = ear-holds (h .ear) (f .gathered);
+      keys = f .keys;
+    })
+
+all-fit : (n : ℕ) (hs : List Head) → ((k : ℕ) → k < n → wellformedOf (getD hs k factoryOf) ≡ true) → allFit n hs ≡ true
+all-fit zero hs p = refl
+all-fit (suc n) [] p = refl
+all-fit (suc n) (h ∷ hs) p = rw (p 0 (omega arith)) (all-fit n hs (λ k lt. p (suc k) (omega arith)))
+
+pub twenty : Twenty
+twenty =
+    record {
+      head-passed = passed;
+      head-passes = passes;
+      line-passed = λ l e. record { few = fits-small l e; heads = well-at l e };
+      line-passes = λ l f. fits-eight l (f .few) ∙ all-fit (l .count) (l .heads) (f .heads);
+    }

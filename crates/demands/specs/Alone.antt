@@ -1,0 +1,153 @@
+-- What power, a tick, a measurement and a key state do to a head alone, in the sentences of document 01: h is the head before the call, k the
+-- head after it. Each part of a head has its sentence, that it is as it was among them.
+-- Assumes nothing.
+use Prim.Native.Nat.{ℕ, _*_, _/_, _%_, _≤_}
+use mathlib.Core.Path.{_≡_}
+use mathlib.Core.Bool.{Bool, true, false, cond, not, _&&_, _||_}
+use mathlib.Core.List.{List, [], _∷_, _++_}
+use lib.Dec.{leb, ltb, eqb}
+use lib.IntN.{ℤ, pos}
+use lib.ListN.{length, take, drop}
+use Rattle.state.specs.declared.parts.Head.{Head}
+use Rattle.state.specs.declared.parts.ErrorList.{ErrorList}
+use Rattle.state.specs.Settings.{valueAt, nodePlace, baudPlace, timeoutPlace, calibrationKeyPlace, calibrationPlace, incrementalKeyPlace}
+use Rattle.state.specs.Bits.{bitSet}
+use Rattle.state.specs.Errors.{rememberedOf}
+use Rattle.state.specs.Status.{statusOf}
+use Rattle.state.specs.Wellformed.{wellformedOf}
+use Rattle.demands.specs.Past.{since, delivered}
+
+-- the value of a parameter, by its place
+abbrev pub setting : Head → ℕ → ℕ
+setting h i = valueAt (h .stored .values) i
+
+-- the codes in an error list, the oldest first; one more, where a full list drops its oldest
+abbrev pub entries : ErrorList → List ℕ
+entries l = take (l .count) (l .codes)
+
+abbrev pub entered : List ℕ → ℕ → List ℕ
+entered codes code = cond (ltb (length codes) 10) codes (drop 1 codes) ++ (code ∷ [])
+
+-- a byte call that is not refused: the head is well-formed and ten bytes are lent
+pub record Taken (h : Head) (space : List ℕ) : Type 0 where
+  pub well : wellformedOf h ≡ true
+  pub room : 10 ≤ length space
+
+-- ---- power, and A0h 9: a restart. What the ear holds past its count, and when the last byte came, cannot be seen where none is gathered
+pub record Restarted (h k : Head) : Type 0 where
+  -- keeps the 39, interlock, error memory, calibration and last measurement
+  pub values : k .stored .values ≡ h .stored .values
+  pub unlocked : k .stored .unlocked ≡ h .stored .unlocked
+  pub memory : k .faults .memory ≡ h .faults .memory
+  pub zero : k .measurement .zero ≡ h .measurement .zero
+  pub adopted : k .measurement .adopted ≡ h .measurement .adopted
+  pub m : k .measurement .m ≡ h .measurement .m
+  -- takes 00h and 01h into force
+  pub number : k .stored .number ≡ setting h nodePlace
+  pub baud : k .stored .baud ≡ setting h baudPlace
+  -- clears everything else: set points 0 and invalid, taken control word 0, static bit
+  pub first : k .targets .first ≡ 0
+  pub valid1 : k .targets .valid1 ≡ false
+  pub second : k .targets .second ≡ 0
+  pub valid2 : k .targets .valid2 ≡ false
+  pub word : k .targets .word ≡ 0
+  pub reached : k .targets .reached ≡ false
+  -- pending error, counts, input list, keys
+  pub pending : k .faults .pending ≡ 0
+  pub damaged : k .faults .damaged ≡ 0
+  pub inputs : entries (k .faults .inputs) ≡ []
+  pub keys : k .keys ≡ 0
+  -- freezing, incremental, monitor, each with the value that goes with it, and the bytes gathered
+  pub frozen : k .measurement .frozen ≡ false
+  pub kept : k .measurement .kept ≡ pos 0
+  pub incremental : k .measurement .incremental ≡ false
+  pub start : k .measurement .start ≡ pos 0
+  pub running : k .monitor .running ≡ false
+  pub since′ : k .monitor .since ≡ 0
+  pub gathered : k .ear .count ≡ 0
+
+-- ---- a tick: the monitor runs, 02h is above 0, and at least 100 times 02h ms have gone by
+abbrev pub overdue : Head → ℕ → Bool
+overdue h t = h .monitor .running && (ltb 0 (setting h timeoutPlace) && leb (100 * setting h timeoutPlace) (since t (h .monitor .since)))
+
+pub record Ticked (h k : Head) (t : ℕ) : Type 0 where
+  -- then it raises 0081h, which becomes the pending error and enters the error memory, and stops the monitor; else it does nothing
+  pub pending : k .faults .pending ≡ cond (overdue h t) 0x0081 (h .faults .pending)
+  pub memory : k .faults .memory ≡ cond (overdue h t) (rememberedOf (h .faults .memory) 0x0081) (h .faults .memory)
+  pub running : k .monitor .running ≡ cond (overdue h t) false (h .monitor .running)
+  pub since′ : k .monitor .since ≡ cond (overdue h t) 0 (h .monitor .since)
+  pub inputs : k .faults .inputs ≡ h .faults .inputs
+  pub damaged : k .faults .damaged ≡ h .faults .damaged
+  pub stored : k .stored ≡ h .stored
+  pub measurement : k .measurement ≡ h .measurement
+  pub targets : k .targets ≡ h .targets
+  pub ear : k .ear ≡ h .ear
+  pub keys : k .keys ≡ h .keys
+
+-- ---- a measurement; bit 5 of a head's status word
+abbrev pub bit5 : Head → Bool
+bit5 h = bitSet (statusOf h) 5
+
+pub record Measured (h k : Head) (x : ℤ) : Type 0 where
+  pub m : k .measurement .m ≡ x
+  -- the static bit is set where bit 5 holds after it
+  pub reached : k .targets .reached ≡ (h .targets .reached || bit5 k)
+  pub zero : k .measurement .zero ≡ h .measurement .zero
+  pub adopted : k .measurement .adopted ≡ h .measurement .adopted
+  pub incremental : k .measurement .incremental ≡ h .measurement .incremental
+  pub start : k .measurement .start ≡ h .measurement .start
+  pub frozen : k .measurement .frozen ≡ h .measurement .frozen
+  pub kept : k .measurement .kept ≡ h .measurement .kept
+  pub first : k .targets .first ≡ h .targets .first
+  pub valid1 : k .targets .valid1 ≡ h .targets .valid1
+  pub second : k .targets .second ≡ h .targets .second
+  pub valid2 : k .targets .valid2 ≡ h .targets .valid2
+  pub word : k .targets .word ≡ h .targets .word
+  pub stored : k .stored ≡ h .stored
+  pub faults : k .faults ≡ h .faults
+  pub monitor : k .monitor ≡ h .monitor
+  pub ear : k .ear ≡ h .ear
+  pub keys : k .keys ≡ h .keys
+
+-- ---- a key state: the key of this weight, 1 left, 2 star, 4 up, is down and was not before
+abbrev pub newly : ℕ → Head → ℕ → Bool
+newly weight h state = eqb (state / weight % 2) 1 && eqb (h .keys / weight % 2) 0
+
+-- left newly pressed acknowledges a pending error, else calibrates if 05h is 1
+abbrev pub calibrates : Head → ℕ → Bool
+calibrates h state = newly 1 h state && (eqb (h .faults .pending) 0 && eqb (setting h calibrationKeyPlace) 1)
+
+-- up newly pressed switches incremental if 35h is 1
+abbrev pub switches : Head → ℕ → Bool
+switches h state = newly 4 h state && eqb (setting h incrementalKeyPlace) 1
+
+pub record Keyed (h k : Head) (state : ℕ) : Type 0 where
+  pub keys : k .keys ≡ state
+  pub pending : k .faults .pending ≡ cond (newly 1 h state) 0 (h .faults .pending)
+  -- calibration makes m the zero and adopts 1Fh
+  pub zero : k .measurement .zero ≡ cond (calibrates h state) (h .measurement .m) (h .measurement .zero)
+  pub adopted : k .measurement .adopted ≡ cond (calibrates h state) (setting h calibrationPlace) (h .measurement .adopted)
+  -- incremental measurement starts from the m at switching on
+  pub incremental : k .measurement .incremental ≡ cond (switches h state) (not (h .measurement .incremental)) (h .measurement .incremental)
+  pub start : k .measurement .start ≡ cond (switches h state) (cond (h .measurement .incremental) (pos 0) (h .measurement .m)) (h .measurement .start)
+  pub m : k .measurement .m ≡ h .measurement .m
+  pub frozen : k .measurement .frozen ≡ h .measurement .frozen
+  pub kept : k .measurement .kept ≡ h .measurement .kept
+  pub memory : k .faults .memory ≡ h .faults .memory
+  pub inputs : k .faults .inputs ≡ h .faults .inputs
+  pub damaged : k .faults .damaged ≡ h .faults .damaged
+  pub stored : k .stored ≡ h .stored
+  pub targets : k .targets ≡ h .targets
+  pub monitor : k .monitor ≡ h .monitor
+  pub ear : k .ear ≡ h .ear
+
+-- ---- a new head is as after a restart, its error memory empty: interlock closed, m, the zero and the adopted value 0, and the delivery values,
+-- of which that of 00h is the number given
+pub record New (k : Head) (node : ℕ) : Type 0 where
+  pub restarted : Restarted k k
+  pub memory : entries (k .faults .memory) ≡ []
+  pub unlocked : k .stored .unlocked ≡ false
+  pub m : k .measurement .m ≡ pos 0
+  pub zero : k .measurement .zero ≡ pos 0
+  pub adopted : k .measurement .adopted ≡ 0
+  pub values : (r : ℕ) → setting k r ≡ delivered node r

@@ -1,0 +1,58 @@
+-- The calls that a program makes are the product's: what the contract of each call allows is what the system has for it. The demands speak of a
+-- system (Run); this ties it to the code, so that no call can promise something else than the definition that the demands are proved of.
+-- Assumes nothing.
+use Prim.Native.Nat.{ℕ}
+use mathlib.Core.Path.{_≡_}
+use mathlib.Core.List.{List}
+use lib.ListN.{length}
+use contract.Lifetimes.{Lfts}
+use denote.Ref.{now}
+use denote.Triple.Clauses.{Lasts, AtExit, atExit}
+use borrow.Fn.Kinds.{PK, RK, Dens, resT, endedOf, Out}
+use Rattle.head.specs.Refusals.{refusalOf}
+use Rattle.head.specs.Outcome as alone
+use Rattle.line.specs.Calls.{emptyOf}
+use Rattle.head.proofs.calls as head-calls
+use Rattle.head.proofs.refusal as head-refusal
+use Rattle.line.proofs.calls as line-calls
+use Rattle.demands.specs.Calls as calls
+use Rattle.demands.specs.Run.{System}
+
+-- whatever the arguments a: what the contract allows of the result, and of the arguments as they are left, is so
+abbrev pub Says : {n : ℕ} (ps : List (PK n)) (r : RK n) → Out n ps r
+    → ((κs : Lfts n) → Dens κs ps → resT r κs .Denot → AtExit (endedOf n ps r) κs → Type 0) → Type 0
+Says {n} ps r post P =
+    (κs : Lfts n) (a : Dens κs ps) (y : resT r κs .Denot) (u : Lasts (endedOf n ps r) κs a) → post κs a y (atExit (endedOf n ps r) κs a u)
+    → P κs a y (atExit (endedOf n ps r) κs a u)
+
+-- a result that it allows is f of the arguments
+abbrev pub Gives : {n : ℕ} (ps : List (PK n)) (r : RK n) → Out n ps r → ((κs : Lfts n) → Dens κs ps → resT r κs .Denot) → Type 0
+Gives ps r post f = Says ps r post (λ κs a y s. y ≡ f κs a)
+
+pub record Real (m : System) : Type 0 where
+  -- a head alone
+  pub factory : Gives head-calls.factory.Kinds.ps head-calls.factory.Kinds.r head-calls.factory.Reads.Post (λ κs a. m .onHead .make 31 .head)
+  pub make : Gives head-calls.make.Kinds.ps head-calls.make.Kinds.r head-calls.make.Reads.Post (λ κs a. m .onHead .make (a .0))
+  -- a byte: the result, and the lent space as it is left
+  pub byte : Says head-calls.byte.Kinds.ps head-calls.byte.Kinds.r head-calls.byte.Reads.Post (λ κs a y s.
+      (y ≡ m .onHead .byte (a .0) (a .1 .0) (a .1 .1 .0) (length (now (a .1 .1 .1 .0))))
+      × (now (s .1 .1 .1 .0) ≡ m .onHead .space (a .0) (a .1 .0) (a .1 .1 .0) (now (a .1 .1 .1 .0))))
+  pub tick : Gives head-calls.tick.Kinds.ps head-calls.tick.Kinds.r head-calls.tick.Reads.Post (λ κs a. m .onHead .ask (alone.tick (a .1 .0)) (a .0))
+  pub measure : Gives head-calls.measure.Kinds.ps head-calls.measure.Kinds.r head-calls.measure.Reads.Post (λ κs a. m .onHead .ask (alone.measure (a .1 .0)) (a .0))
+  pub keys : Gives head-calls.keys.Kinds.ps head-calls.keys.Kinds.r head-calls.keys.Reads.Post (λ κs a. m .onHead .ask (alone.keys (a .1 .0)) (a .0))
+  pub power : Gives head-calls.power.Kinds.ps head-calls.power.Kinds.r head-calls.power.Reads.Post (λ κs a. m .onHead .ask alone.power (a .0))
+  -- what a driver asks: the number and the baud setting in force; the number of a refusal
+  pub number-in-force : Gives head-calls.number_in_force.Kinds.ps head-calls.number_in_force.Kinds.r head-calls.number_in_force.Reads.Post (λ κs a. a .0 .stored .number)
+  pub baud-in-force : Gives head-calls.baud_in_force.Kinds.ps head-calls.baud_in_force.Kinds.r head-calls.baud_in_force.Reads.Post (λ κs a. a .0 .stored .baud)
+  pub number : Gives head-refusal.Refusal.number.Kinds.ps head-refusal.Refusal.number.Kinds.r head-refusal.Refusal.number.Reads.Post (λ κs a. refusalOf (a .0))
+  -- a line
+  pub empty : Gives line-calls.empty.Kinds.ps line-calls.empty.Kinds.r line-calls.empty.Reads.Post (λ κs a. emptyOf)
+  pub count : Gives line-calls.count.Kinds.ps line-calls.count.Kinds.r line-calls.count.Reads.Post (λ κs a. a .0 .count)
+  pub grow : Gives line-calls.grow.Kinds.ps line-calls.grow.Kinds.r line-calls.grow.Reads.Post (λ κs a. m .onLine .grow (a .0) (a .1 .0))
+  pub line-byte : Says line-calls.byte.Kinds.ps line-calls.byte.Kinds.r line-calls.byte.Reads.Post (λ κs a y s.
+      (y ≡ m .onLine .byte (a .0) (a .1 .0) (a .1 .1 .0) (length (now (a .1 .1 .1 .0))))
+      × (now (s .1 .1 .1 .0) ≡ m .onLine .space (a .0) (a .1 .0) (a .1 .1 .0) (now (a .1 .1 .1 .0))))
+  pub line-tick : Gives line-calls.tick.Kinds.ps line-calls.tick.Kinds.r line-calls.tick.Reads.Post (λ κs a. m .onLine .tick (a .0) (a .1 .0))
+  pub line-measure : Gives line-calls.measure.Kinds.ps line-calls.measure.Kinds.r line-calls.measure.Reads.Post (λ κs a. m .onLine .ask (calls.measure (a .1 .1 .0)) (a .0) (a .1 .0))
+  pub line-keys : Gives line-calls.keys.Kinds.ps line-calls.keys.Kinds.r line-calls.keys.Reads.Post (λ κs a. m .onLine .ask (calls.keys (a .1 .1 .0)) (a .0) (a .1 .0))
+  pub line-power : Gives line-calls.power.Kinds.ps line-calls.power.Kinds.r line-calls.power.Reads.Post (λ κs a. m .onLine .ask calls.power (a .0) (a .1 .0))

@@ -1,0 +1,82 @@
+-- Sentences of document 01 that no law states, each tried at a head made with 31: what is put to it, and all that it replies. Telegrams that a
+-- wrong definition would answer otherwise: the errors that others made, the codes, the lists, freezing, calibration, the status word, the resets.
+-- Assumes nothing.
+use Prim.Native.Nat.{ℕ}
+use mathlib.Core.Path.{_≡_}
+use mathlib.Core.List.{List, [], _∷_, _++_, map}
+use lib.IntN.{pos}
+use Rattle.signed.specs.Number.{minus}
+use Rattle.state.specs.declared.parts.Head.{Head}
+use Rattle.effects.specs.Restart.{freshOf}
+use Rattle.head.specs.Outcome.{Ask, tick, measure, keys, called}
+use Rattle.demands.specs.Cases.{split, heardAll, saidAll}
+
+-- ten bytes heard at a time, written as one number; or a tick, a measurement, a key state, power
+pub data Step : Type 0 where
+  hears : ℕ → ℕ → Step
+  asked : Ask → Step
+
+abbrev pub answered : List Step → Head → List (List ℕ)
+answered [] h = []
+answered (hears time ten ∷ ss) h = saidAll (split 10 ten) time h ++ answered ss (heardAll (split 10 ten) time h)
+answered (asked a ∷ ss) h = answered ss (called a h .head)
+
+pub record Told : Type 0 where
+  pub steps : List Step
+  pub replies : List ℕ
+
+abbrev pub told : List Step → List ℕ → Told
+told steps replies = record { steps = steps; replies = replies }
+
+abbrev pub All : List Told → Type 0
+All [] = Unit {0}
+All (t ∷ ts) = (answered (t .steps) (freshOf 31) ≡ map (split 10) (t .replies)) × All ts
+
+unfoldable pub sentences : List Told
+sentences =
+    -- 65h is 11 and 67h 100
+    told (hears 0 0x001F650000000000007A ∷ hears 0 0x001F6700000000000078 ∷ [])
+    (0x001F6500000000000B71 ∷ 0x001F670000000000641C ∷ [])
+    -- an unknown parameter is 00 83, a command above 02h 00 84, a write to read only 01 84, a read of write only 02 84; each enters the input
+    -- list, and 96h gives the count, the nth oldest with its number, and 02 82 above the count
+    ∷ told (hears 0 0x001F100000000000000F ∷ hears 0 0x031F200000000000003C ∷ hears 0 0x011F650000000000007B ∷ hears 0 0x001FA0000000000000BF ∷ hears 0 0x001F9600000000000089 ∷ hears 0 0x001F9600000100000088 ∷ hears 0 0x001F960000040000008D ∷ hears 0 0x001F960000060000008F ∷ hears 0 0x001F800000000000009F ∷ [])
+    (0x001FFD00000000008361 ∷ 0x031FFD00000000008465 ∷ 0x011FFD00000000018466 ∷ 0x001FFD00000000028464 ∷ 0x001F960000000000048D ∷ 0x001F960000010000830B ∷ 0x001F960000040002840B ∷ 0x001FFD00000000028262 ∷ 0x001F800000000000009F ∷ [])
+    -- command above 02h before unknown parameter; unknown before read only
+    ∷ told (hears 0 0x071F1000000000000008 ∷ hears 0 0x011F100000000000000E ∷ [])
+    (0x071FFD00000000008461 ∷ 0x011FFD00000000008360 ∷ [])
+    -- three damaged in a row raise 0080h: bit 7, 80h, 81h and FDh show it from the next telegram on; A0h 8 empties the memory and leaves it
+    -- pending; bit 5 acknowledges it
+    ∷ told (hears 0 0x001F200000000000003E ∷ hears 0 0x001F200000000000003E ∷ hears 0 0x001FFD000000000000E2 ∷ hears 0 0x001F200000000000003E ∷ hears 0 0x001F200000000000003E ∷ hears 0 0x001F200000000000003E ∷ hears 0 0x001F800000000000009F ∷ hears 0 0x001F810000000000009E ∷ hears 0 0x001F820000000000009D ∷ hears 0 0x001FFD000000000000E2 ∷ hears 0 0x011FA0000000000008B6 ∷ hears 0 0x001F800000000000009F ∷ hears 0 0x001FFD000000000000E2 ∷ hears 0 0x011FFB002000000000C5 ∷ hears 0 0x001FFD000000000000E2 ∷ [])
+    (0x001FFD00000000008062 ∷ 0x001FFD00000000008062 ∷ 0x001FFD000000000000E2 ∷ 0x001FFD00000000008062 ∷ 0x001FFD00000000008062 ∷ 0x001FFD00000000008062 ∷ 0x001F800080000000011E ∷ 0x001F810080000000809E ∷ 0x001F820080000000001D ∷ 0x001FFD008000000080E2 ∷ 0x011FA000800000000836 ∷ 0x001F800080000000001F ∷ 0x001FFD008000000080E2 ∷ 0x011FFB00800000000065 ∷ 0x001FFD000000000000E2 ∷ [])
+    -- bit 5 acknowledges only if the last taken word had it 0
+    ∷ told (hears 0 0x011FFB002000000000C5 ∷ hears 0 0x001F200000000000003E ∷ hears 0 0x001F200000000000003E ∷ hears 0 0x001F200000000000003E ∷ hears 0 0x011FFB002000000000C5 ∷ hears 0 0x001FFD000000000000E2 ∷ hears 0 0x011FFB000000000000E5 ∷ hears 0 0x011FFF002000000000C1 ∷ hears 0 0x001FFD000000000000E2 ∷ [])
+    (0x011FFB000000000000E5 ∷ 0x001FFD00000000008062 ∷ 0x001FFD00000000008062 ∷ 0x001FFD00000000008062 ∷ 0x011FFB00800000000065 ∷ 0x001FFD008000000080E2 ∷ 0x011FFB00800000000065 ∷ 0x011FFF00800000000061 ∷ 0x001FFD000000000000E2 ∷ [])
+    -- a read's control word is ignored: the set point stays valid
+    ∷ told (hears 0 0x011FFF02000000006487 ∷ hears 0 0x001FFF000000000000E0 ∷ hears 0 0x001FFA000000000000E5 ∷ hears 0 0x011FFB000400000007E6 ∷ hears 0 0x001FFB000000000009ED ∷ hears 0 0x001FFA000000000000E5 ∷ [])
+    (0x011FFF00000000006485 ∷ 0x001FFF04010000006481 ∷ 0x001FFA040100000401E5 ∷ 0x011FFB040100000007E7 ∷ 0x001FFB040500000007E2 ∷ 0x001FFA040500000405E5 ∷ [])
+    -- 1Fh is adopted when calibrating, not when written; A7h, A0h 7 and left do so
+    ∷ told (asked (measure (pos 1000)) ∷ hears 0 0x011F1F00000000003233 ∷ hears 0 0x001FFE000000000000E1 ∷ hears 0 0x011FA7000000000001B8 ∷ hears 0 0x001FFE000000000000E1 ∷ asked (measure (pos 1010)) ∷ hears 0 0x001FFE000000000000E1 ∷ hears 0 0x011F1F0000FFFFFFF907 ∷ hears 0 0x011FA0000000000007B9 ∷ hears 0 0x001FFE000000000000E1 ∷ hears 0 0x011F1F00000000000302 ∷ asked (keys 1) ∷ hears 0 0x001FFE000000000000E1 ∷ hears 0 0x011F1E0000FFFFFFFB04 ∷ hears 0 0x001FFE000000000000E1 ∷ [])
+    (0x011F1F00000000003233 ∷ 0x001FFE0000000003E80A ∷ 0x011FA7000000000001B8 ∷ 0x001FFE000000000032D3 ∷ 0x001FFE00000000003CDD ∷ 0x011F1F0000FFFFFFF907 ∷ 0x011FA0000000000007B9 ∷ 0x001FFE0000FFFFFFF9E7 ∷ 0x011F1F00000000000302 ∷ 0x001FFE200000000003C2 ∷ 0x011F1E2000FFFFFFFB24 ∷ 0x001FFE2000FFFFFFFEC0 ∷ [])
+    -- A - S is not taken in 32 bits; 34h turns it
+    ∷ told (asked (measure (pos 1)) ∷ hears 0 0x011FFF00008000000061 ∷ hears 0 0x001FFC000000000000E3 ∷ hears 0 0x011F340000000000012B ∷ hears 0 0x001FFC000000000000E3 ∷ hears 0 0x011FFF000000000005E4 ∷ hears 0 0x001FFC000000000000E3 ∷ [])
+    (0x011FFF00008000000061 ∷ 0x001FFC000000500000B3 ∷ 0x011F340000000000012B ∷ 0x001FFC0000FFB00000AC ∷ 0x011FFF000000000005E4 ∷ 0x001FFC000000000004E7 ∷ [])
+    -- AAh keeps the value of FEh until FEh is read, bit 8 shows it; a second keeps anew
+    ∷ told (asked (measure (pos 12)) ∷ hears 0 0x0200AA000000000001A9 ∷ asked (measure (pos 34)) ∷ hears 0 0x0200AA000000000001A9 ∷ asked (measure (pos 56)) ∷ hears 0 0x001FFA000000000000E5 ∷ hears 0 0x001FFE000000000000E1 ∷ hears 0 0x001FFE000000000000E1 ∷ [])
+    (0x001FFA010000000100E5 ∷ 0x001FFE010000000022C2 ∷ 0x001FFE000000000038D9 ∷ [])
+    -- an FFh write is answered by 03h
+    ∷ told (asked (measure (pos 20)) ∷ hears 0 0x011F030000000000011C ∷ hears 0 0x011FFF00000000006485 ∷ hears 0 0x011F030000000000021F ∷ hears 0 0x011FFF00000000006485 ∷ hears 0 0x011F030000000000001D ∷ hears 0 0x011FFF00000000006485 ∷ [])
+    (0x011F030000000000011C ∷ 0x011FFF000000000014F5 ∷ 0x011F030000000000021F ∷ 0x011FFF0000FFFFFFB0AE ∷ 0x011F030000000000001D ∷ 0x011FFF00000000006485 ∷ [])
+    -- 0Bh and 33h: A and FEh
+    ∷ told (asked (measure (pos 12345)) ∷ hears 0 0x011F0B00000000000217 ∷ hears 0 0x001FFE000000000000E1 ∷ hears 0 0x001FFC000000000000E3 ∷ hears 0 0x011F330000000000012C ∷ hears 0 0x001FFE000000000000E1 ∷ hears 0 0x001FFC000000000000E3 ∷ hears 0 0x011F330000000000022F ∷ hears 0 0x001FFE000000000000E1 ∷ hears 0 0x001FFC000000000000E3 ∷ [])
+    (0x011F0B00000000000217 ∷ 0x001FFE00000000007B9A ∷ 0x001FFC00000000007B98 ∷ 0x011F330000000000012C ∷ 0x001FFE000000003039E8 ∷ 0x001FFC00000000007B98 ∷ 0x011F330000000000022F ∷ 0x001FFE000000003039E8 ∷ 0x001FFC000000003039EA ∷ [])
+    -- status bits: valid 10 and 2; 5 within 20h, 3 within 31h, 6 above, 0 and 1 by 1Bh; 4 static, which FAh's read and control bit 4 clear; 9
+    -- incremental, 13 to 15 keys
+    ∷ told (hears 0 0x011FFF02000000006487 ∷ hears 0 0x011F310000000000321D ∷ hears 0 0x001FFA000000000000E5 ∷ asked (measure (pos 60)) ∷ hears 0 0x001FFA000000000000E5 ∷ asked (measure (pos 98)) ∷ hears 0 0x001FFA000000000000E5 ∷ hears 0 0x001FFA000000000000E5 ∷ asked (measure (pos 130)) ∷ hears 0 0x001FFA000000000000E5 ∷ hears 0 0x011F1B00000000000104 ∷ hears 0 0x001FFA000000000000E5 ∷ asked (measure (pos 100)) ∷ hears 0 0x011FFB001000000000F5 ∷ hears 0 0x001FFA000000000000E5 ∷ asked (keys 6) ∷ hears 0 0x001FFA000000000000E5 ∷ asked (measure (pos 130)) ∷ hears 0 0x001FFE000000000000E1 ∷ asked (keys 0) ∷ hears 0 0x001FFA000000000000E5 ∷ [])
+    (0x011FFF00000000006485 ∷ 0x011F3104010000003218 ∷ 0x001FFA040100000401E5 ∷ 0x001FFA040900000409E5 ∷ 0x001FFA043800000438E5 ∷ 0x001FFA042800000428E5 ∷ 0x001FFA044A0000044AE5 ∷ 0x011F1B044A000000014A ∷ 0x001FFA044900000449E5 ∷ 0x011FFB043800000000D9 ∷ 0x001FFA042800000428E5 ∷ 0x001FFAC6020000C602E5 ∷ 0x001FFEC6020000001E3B ∷ 0x001FFA060200000602E5 ∷ [])
+    -- A0h 2 resets all but the bus six, 5 the bus six, 1 all; 00h to 31; A0h may be broadcast
+    ∷ told (hears 0 0x011F010000000000021D ∷ hears 0 0x011F0400000000000913 ∷ hears 0 0x011FA0000000000002BC ∷ hears 0 0x001F010000000000001E ∷ hears 0 0x001F040000000000001B ∷ hears 0 0x011F0400000000000913 ∷ hears 0 0x011FA0000000000005BB ∷ hears 0 0x001F010000000000001E ∷ hears 0 0x001F040000000000001B ∷ hears 0 0x0200A0000000000001A3 ∷ hears 0 0x001F040000000000001B ∷ hears 0 0x011F0000000000000C12 ∷ hears 0 0x011FA0000000000005BB ∷ hears 0 0x001F000000000000001F ∷ [])
+    (0x011F010000000000021D ∷ 0x011F0400000000000913 ∷ 0x011FA0000000000002BC ∷ 0x001F010000000000021C ∷ 0x001F040000000000051E ∷ 0x011F0400000000000913 ∷ 0x011FA0000000000005BB ∷ 0x001F010000000000011F ∷ 0x001F0400000000000912 ∷ 0x001F040000000000051E ∷ 0x011F0000000000000C12 ∷ 0x011FA0000000000005BB ∷ 0x001F0000000000001F00 ∷ [])
+    -- the monitor: 02h 1, from the last sound telegram, for whomever; raised once
+    ∷ told (hears 0 0x011F020000000000011D ∷ hears 7 0x00052000000000000025 ∷ asked (tick 106) ∷ hears 8 0x001FFD000000000000E2 ∷ asked (tick 107) ∷ asked (tick 108) ∷ hears 9 0x001FFD000000000000E2 ∷ hears 9 0x001F800000000000009F ∷ [])
+    (0x011F020000000000011D ∷ 0x001FFD000000000000E2 ∷ 0x001FFD008000000081E3 ∷ 0x001F800080000000011E ∷ [])
+    ∷ []

@@ -1,0 +1,44 @@
+-- When refusal 20 is given, clause by clause (document 01, "The line, and calls refused"): Demand1 names it by the definitions of the crates state
+-- and line; here each clause stands in the document's own limits, so that a head or a line is let pass exactly when all hold.
+-- Assumes nothing.
+use Prim.Native.Nat.{ℕ, _≤_, _<_}
+use mathlib.Core.Path.{_≡_}
+use mathlib.Core.Bool.{true}
+use lib.IntN.{ℤ, natAbs}
+use Rattle.rows.specs.Table.{rowOf}
+use Rattle.rows.specs.Ranges.{fitsIn, allRightOf}
+use Rattle.state.specs.declared.parts.Head.{Head}
+use Rattle.state.specs.Wellformed.{wellformedOf}
+use Rattle.line.specs.declared.calls.Line.{Line}
+use Rattle.line.specs.Calls.{fitsOf, headAt}
+
+abbrev pub InReach : ℤ → Type 0
+InReach v = natAbs v ≤ 2500000
+
+pub record Formed (h : Head) : Type 0 where
+  -- each stored value, the number in force (00h's row) and the adopted value (1Fh's) in its row
+  pub values : allRightOf (h .stored .values) ≡ true
+  pub number : (1 ≤ h .stored .number) × (h .stored .number ≤ 127)
+  pub adopted : fitsIn (rowOf 19) (h .measurement .adopted) ≡ true
+  -- ten entries in a list, two damaged in a row, nine bytes gathered, keys 7
+  pub memory : h .faults .memory .count ≤ 10
+  pub inputs : h .faults .inputs .count ≤ 10
+  pub damaged : h .faults .damaged ≤ 2
+  pub gathered : h .ear .count ≤ 9
+  pub keys : h .keys ≤ 7
+  -- m, zero and the incremental start in the measurement range, a kept FEh value at most 5242880 either way
+  pub m : InReach (h .measurement .m)
+  pub zero : InReach (h .measurement .zero)
+  pub start : InReach (h .measurement .start)
+  pub kept : natAbs (h .measurement .kept) ≤ 5242880
+
+-- at most eight heads, and each below the count so; what stands past the count does not matter
+pub record LineFormed (l : Line) : Type 0 where
+  pub few : l .count ≤ 8
+  pub heads : (k : ℕ) → k < l .count → wellformedOf (headAt l k) ≡ true
+
+pub record Twenty : Type 0 where
+  pub head-passed : (h : Head) → wellformedOf h ≡ true → Formed h
+  pub head-passes : (h : Head) → Formed h → wellformedOf h ≡ true
+  pub line-passed : (l : Line) → fitsOf l ≡ true → LineFormed l
+  pub line-passes : (l : Line) → LineFormed l → fitsOf l ≡ true

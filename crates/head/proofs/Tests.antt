@@ -1,0 +1,31 @@
+-- Tests in their order: what they refuse, and what holds of a call that is guarded by them.
+-- Assumes nothing.
+use mathlib.Core.Path.{_≡_, refl}
+use mathlib.Core.Bool.{true, false, cond}
+use mathlib.Core.List.{[], _∷_}
+use mathlib.Core.Option.{Option, none, some}
+use Rattle.head.specs.declared.refusal.Refusal.{Refusal}
+use Rattle.head.specs.Calls.{Tests, guarded}
+
+-- the refusal of the first test that fails
+abbrev pub failed : Tests → Option Refusal
+failed [] = none
+failed (t ∷ ts) = cond (t .0) (failed ts) (some (t .1))
+
+abbrev pub Hold : Tests → Type 0
+Hold [] = Unit
+Hold (t ∷ ts) = (t .0 ≡ true) × Hold ts
+
+-- what holds where a call is refused, and where it is done as all tests hold, holds of the call
+pub either : {C : Type 0} (P : C → Type 0) (f : Refusal → C) (x : C) (ts : Tests)
+    → ((why : Refusal) → P (f why)) → (Hold ts → P x) → P (guarded f ts x)
+either P f x [] r d = d tt
+either P f x ((true, why) ∷ ts) r d = either P f x ts r (λ h. d (refl, h))
+either P f x ((false, why) ∷ ts) r d = r why
+
+-- what a call says of itself: nothing where it is done, its reason where it is refused
+pub says : {C : Type 0} (o : C → Option Refusal) (f : Refusal → C) (x : C) (ts : Tests)
+    → ((why : Refusal) → o (f why) ≡ some why) → o x ≡ none → o (guarded f ts x) ≡ failed ts
+says o f x [] r d = d
+says o f x ((true, why) ∷ ts) r d = says o f x ts r d
+says o f x ((false, why) ∷ ts) r d = r why
