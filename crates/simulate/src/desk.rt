@@ -1,4 +1,6 @@
 // A command on the desk: what it calls, and what is written for it.
+use crate::answer;
+use crate::answer::Answering;
 use head::calls::Answer;
 use head::calls::Heard;
 use head::refusal::Refusal;
@@ -24,10 +26,10 @@ pub(crate) struct Obeyed {
     pub written: bool,
 }
 
-// The line after the bytes of a send, and whether what they drew could be written.
+// The line after the bytes of a send, and what they drew.
 struct Sent {
     line: Line,
-    written: bool,
+    answering: Answering,
 }
 
 // An empty line, and space for one reply.
@@ -40,31 +42,29 @@ pub(crate) fn bare() -> Desk
     }
 }
 
-fn write(text: &[u8]) -> bool {
-    io::write_all(STDOUT_FILENO, text)
-}
-
 fn write_number(n: u64) -> bool {
     io::print_decimal(STDOUT_FILENO, n)
 }
 
 fn write_refusal(why: Refusal) -> bool {
-    let label = write(b"refused ");
+    let label = answer::write(b"refused ");
     write_number(why.number() as u64) & label
 }
 
 fn write_answer(a: Answer) -> bool {
-    let text = match a {
-        Answer::Done => write(b"ok"),
-        Answer::Refused(why) => write_refusal(why),
-    };
-    write(b"\n") & text
+    match a {
+        Answer::Done => answer::write(b"ok\n"),
+        Answer::Refused(why) => {
+            let text = write_refusal(why);
+            answer::write(b"\n") & text
+        }
+    }
 }
 
 fn write_error(number: u64) -> bool {
-    let label = write(b"error at line ");
+    let label = answer::write(b"error at line ");
     let text = write_number(number) & label;
-    write(b"\n") & text
+    answer::write(b"\n") & text
 }
 
 // The reply at the start of the space, after a blank.
@@ -79,45 +79,77 @@ fn word(space: &[u8]) -> [u8; 21]
     text
 }
 
-fn write_replies(n: usize, space: &[u8]) -> bool {
+fn put_replies(out: &mut [u8], a: Answering, n: usize, space: &[u8]) -> Answering {
     if n == 0 {
-        return true;
+        return a;
     }
     if n == 1 {
         let text = word(space);
-        return write(&text);
+        return answer::put(out, a, &text);
     }
-    let label = write(b" collision ");
-    write_number(n as u64) & label
+    let before = answer::flush(out, a);
+    let label = answer::write(b" collision ") & before;
+    Answering {
+        kept: 0,
+        written: write_number(n as u64) & label,
+    }
 }
 
 // What a byte of a send drew. The first says whether the bytes are refused or fed; a refusal is that of all of them.
-fn write_heard(is_first: bool, heard: Heard, space: &[u8]) -> bool {
+fn put_heard(
+    out: &mut [u8],
+    a: Answering,
+    is_first: bool,
+    heard: Heard,
+    space: &[u8],
+) -> Answering {
     match heard {
         Heard::Replies(n) => {
-            let label = if is_first { write(b"sent") } else { true };
-            write_replies(n, space) & label
+            if is_first {
+                let fed = answer::put(out, a, b"sent");
+                return put_replies(out, fed, n, space);
+            }
+            put_replies(out, a, n, space)
         }
-        Heard::Refused(why) => if is_first { write_refusal(why) } else { true },
+        Heard::Refused(why) => {
+            if is_first {
+                return Answering {
+                    kept: 0,
+                    written: write_refusal(why) & a.written,
+                };
+            }
+            a
+        }
     }
 }
 
-fn send_all(line: Line, text: &[u8], time: u32, from: usize, count: usize, space: &mut [u8]) -> Sent
+fn send_all(
+    line: Line,
+    text: &[u8],
+    time: u32,
+    from: usize,
+    count: usize,
+    space: &mut [u8],
+    out: &mut [u8],
+) -> Sent
     ensures { λ r. ⌜ r .line ≡ sentOf (now (text .entry)) time from (length (now (space .entry))) line count ⌝ }
 {
     let mut l = line;
-    let mut written = true;
+    let mut a = Answering {
+        kept: 0,
+        written: true,
+    };
     let mut i: usize = 0;
     while i < count {
         let f = calls::byte(l, script::byte_at(text, from, i), time, space);
         l = f.line;
         let heard = f.heard;
-        written = write_heard(i == 0, heard, space) & written;
+        a = put_heard(out, a, i == 0, heard, space);
         i += 1;
     }
     Sent {
         line: l,
-        written: written,
+        answering: a,
     }
 }
 
@@ -134,8 +166,17 @@ fn send(d: Desk, text: &[u8], time: u32, from: usize, count: usize) -> Obeyed
 {
     let mut space = [0u8; 64];
     let size = room(d.space);
-    let s = send_all(d.line, text, time, from, count, &mut space[..size]);
-    let end = write(b"\n");
+    let mut out = [0u8; 2048];
+    let s = send_all(
+        d.line,
+        text,
+        time,
+        from,
+        count,
+        &mut space[..size],
+        &mut out,
+    );
+    let a = answer::put(&mut out, s.answering, b"\n");
     let line = s.line;
     let desk = Desk {
         line: line,
@@ -143,7 +184,7 @@ fn send(d: Desk, text: &[u8], time: u32, from: usize, count: usize) -> Obeyed
     };
     Obeyed {
         desk: desk,
-        written: end & s.written,
+        written: answer::flush(&out, a),
     }
 }
 

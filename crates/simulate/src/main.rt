@@ -1,4 +1,5 @@
 // A line under a script: reads commands from standard input, one a line, calls, and writes one line for each.
+mod answer;
 mod desk;
 mod help;
 mod reading;

@@ -25,12 +25,16 @@ send-spec =
     (λ c κs. tt)
     (λ c. c .room .ensures .1)
     (λ c. sym (length-take-le {A = ℕ} (c .before .room .result) (replicate 64 0) (c .before .room .ensures .1)))
+    (λ c. search needs)
+    (λ c κs. tt)
+    (λ c. search needs)
+    (λ c. search needs)
     (λ c κs. tt)
     (λ c. search needs)
     (λ c κs. tt)
-    (λ c. let f = c .before .before .before .before .before in
-    let r = f .before .before .room in
-    let a = f .before .before .before .before .args in
+    (λ c. let f = c .before .before .before .before .before .before .before .before .before in
+    let r = f .before .before .before .room in
+    let a = f .before .before .before .before .before .args in
     sends (a .d) (a .text .now) (a .time) (a .from) (a .count) (length (take (r .result) (replicate 64 0))) (f .send-all .result .line)
     (length-take-le {A = ℕ} (r .result) (replicate 64 0) (r .ensures .1) ∙ r .ensures .0)
     (f .send-all .ensures)))
