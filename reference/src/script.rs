@@ -83,7 +83,7 @@ fn command(words: &[&[u8]]) -> Option<Command> {
 }
 
 /// Decimal digits, leading zeros too, of a number that fits 32 bits.
-fn unsigned(word: &[u8]) -> Option<u32> {
+pub(crate) fn unsigned(word: &[u8]) -> Option<u32> {
     if word.is_empty() {
         return None;
     }

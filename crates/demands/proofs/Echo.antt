@@ -11,7 +11,7 @@ use lib.Dec.{ltb}
 use lib.ListN.{replicate}
 use Rattle.wire.specs.Telegram.{fieldsOf}
 use Rattle.rows.specs.Table.{rowOf, address}
-use Rattle.demands.specs.Calls.{newHead, byte, Calls, start, _▸_, Bytes}
+use Rattle.demands.specs.Calls.{newHead, byte, Calls, start, _▸_, Bytes, hearing}
 use Rattle.demands.specs.Past.{since, count, value, inForce}
 use Rattle.demands.specs.Run.{headAfter, answers, readOf, machineOf}
 use Rattle.demands.specs.Demand3.{ReadsBack, Demand3}
@@ -19,25 +19,20 @@ use Rattle.demands.specs.Cases.{split}
 use Rattle.demands.specs.Wrong.{echoing, hasty}
 use Rattle.demands.proofs.Computing.{computing}
 
--- bytes, all at time 0, with ten bytes of space
-abbrev feeds : Calls → List ℕ → Calls
-feeds cs [] = cs
-feeds cs (b ∷ bs) = feeds (cs ▸ byte b 0 10) bs
-
 abbrev areBytes : List ℕ → Bool
 areBytes [] = true
 areBytes (b ∷ bs) = ltb b 256 && areBytes bs
 
-feeds-bytes : (cs : Calls) (bs : List ℕ) → Bytes cs → areBytes bs ≡ true → Bytes (feeds cs bs)
-feeds-bytes cs [] p e = p
-feeds-bytes cs (b ∷ bs) p e = let k = and-eq-true-iff (ltb b 256) _ .0 e in feeds-bytes (cs ▸ byte b 0 10) bs (p, ltb-true b 256 (k .0)) (k .1)
+hearing-bytes : (cs : Calls) (bs : List ℕ) → Bytes cs → areBytes bs ≡ true → Bytes (hearing cs bs)
+hearing-bytes cs [] p e = p
+hearing-bytes cs (b ∷ bs) p e = let k = and-eq-true-iff (ltb b 256) _ .0 e in hearing-bytes (cs ▸ byte b 0 10) bs (p, ltb-true b 256 (k .0)) (k .1)
 
 -- ---- a head at 31 hears a write of 04h 7, and one of 04h 9: the account has the second value, and the machine reads back the first
 abbrev first : Calls
-first = feeds (start ▸ newHead 31) (split 10 0x011F040000000000071D)
+first = hearing (start ▸ newHead 31) (split 10 0x011F040000000000071D)
 
 abbrev both : Calls
-both = feeds first (split 10 0x011F0400000000000913)
+both = hearing first (split 10 0x011F0400000000000913)
 
 the-account : (value both 0 4 ≡ 9) × (inForce both 0 ≡ 31) × (count both ≡ 1)
 unfolding computing
@@ -66,7 +61,7 @@ same-head e = cc
 pub echoing-fails : Demand3 echoing → ⊥
 echoing-fails d =
     let one : 0 < count both = rw (the-account .2) (omega arith) in
-    let h = d .holds both 0 4 (feeds-bytes first (split 10 0x011F0400000000000913) (feeds-bytes (start ▸ newHead 31) (split 10 0x011F040000000000071D) (tt, tt) refl) refl) one (omega arith) in
+    let h = d .holds both 0 4 (hearing-bytes first (split 10 0x011F0400000000000913) (hearing-bytes (start ▸ newHead 31) (split 10 0x011F040000000000071D) (tt, tt) refl) refl) one (omega arith) in
     let back : ReadsBack echoing (headAfter echoing both 0) 31 4 9 = rw (the-account .0, the-account .1) at (h .now) in
     let r = back .reads-back (λ i. 0) 0 0 (replicate 10 0) steady (omega arith) in
     let is : r .0 ≡ split 10 0x001F040000000000071C = same-head (sym the-reply ∙ rw fourth at (r .1)) in
@@ -75,7 +70,7 @@ echoing-fails d =
 
 -- ---- a head at 31 hears a write of 00h 12: 31 stays in force
 abbrev twelve : Calls
-twelve = feeds (start ▸ newHead 31) (split 10 0x011F0000000000000C12)
+twelve = hearing (start ▸ newHead 31) (split 10 0x011F0000000000000C12)
 
 still-31 : (inForce twelve 0 ≡ 31) × (count twelve ≡ 1) × (headAfter (machineOf hasty) twelve 0 .stored .number ≡ 12)
 unfolding computing

@@ -10,7 +10,6 @@ use borrow.Author.Tests.{ltb-true, leb-true, eqb-true, eqb-false, le-leb, leb-fa
 use lib.Dec.{leb, ltb, eqb}
 use lib.ListN.{length, set, getD}
 use lib.Seq.{getD-set-same, getD-set-other}
-use Rattle.rows.proofs.Laws.{node-limits, node-fits}
 use Rattle.state.specs.declared.parts.Head.{Head}
 use Rattle.effects.specs.Restart.{freshOf}
 use Rattle.head.specs.declared.refusal.Refusal.the-variants.{Node, Full, NoHead}
@@ -18,6 +17,7 @@ use Rattle.head.specs.Hear.{stepOf}
 use Rattle.head.specs.Moves.{tickedOf}
 use Rattle.head.specs.Calls.{guarded, factoryOf, nodeFits}
 use Rattle.head.specs.Outcome.{called, own, next}
+use Rattle.head.proofs.Nodes.{node-same}
 use Rattle.head.proofs.Asked.{called-head, called-fits}
 use Rattle.line.specs.declared.calls.Line.{Line}
 use Rattle.line.specs.declared.calls.Called.{Called}
@@ -41,18 +41,6 @@ after-keeps (tick t) l = tick-keeps l t
 after-keeps (named j a) l = ask-keeps a l j
 
 -- ---- how many heads
-same : (a b : Bool) → (a ≡ true → b ≡ true) → (b ≡ true → a ≡ true) → a ≡ b
-same true true p q = refl
-same true false p q = sym (p refl)
-same false true p q = q refl
-same false false p q = refl
-
-node-same : (node : ℕ) → nodeFits node ≡ leb 1 node && leb node 127
-unfolding nodeFits
-node-same node =
-    same _ _ (λ e. let n = node-limits node e in rw (le-leb 1 node (n .0), le-leb node 127 (n .1)))
-    (λ e. let n = and-eq-true-iff (leb 1 node) _ .0 e in node-fits node (leb-true 1 node (n .0)) (leb-true node 127 (n .1)))
-
 -- a new head, by the two tests
 abbrev growBy : Bool → Bool → Line → ℕ → Called
 growBy x y l node = cond x (cond y (doneWith (grownBy l node)) (refusedWith l Node)) (refusedWith l Full)

@@ -20,6 +20,8 @@ pub mod One
 pub mod Whole
 pub mod Back
 pub mod Proved
+pub mod Ordered
+pub mod Lived
 pub mod Echo
 pub mod Wrongs
 pub mod Real

@@ -1,11 +1,12 @@
 -- The calls are the product's: each contract is the equation that the product has for it.
 -- Assumes nothing.
 use mathlib.Core.Path.{_≡_, _∙_, refl}
-use Rattle.effects.specs.Restart.{freshOf}
 use Rattle.head.specs.Calls.{madeOf, factoryOf}
 use Rattle.head.specs.Outcome.{called}
+use Rattle.order_form.specs.Check.{answerOf}
+use Rattle.order_form.proofs.Held.{added}
 use Rattle.demands.specs.Run.{product, askOf}
-use Rattle.demands.specs.Real.{Real}
+use Rattle.demands.specs.Real.{Real, RealForm}
 use Rattle.demands.proofs.Computing.{computing}
 
 factory-made : factoryOf ≡ madeOf 31 .head
@@ -34,4 +35,18 @@ real =
       line-measure = λ κs a y u p. p;
       line-keys = λ κs a y u p. p;
       line-power = λ κs a y u p. p;
+    }
+
+pub real-form : RealForm answerOf
+real-form =
+    record {
+      words = refl;
+      in-order = λ r. refl;
+      asks-nothing = λ 𝓤 H A mem run κs a g. refl;
+      rows = λ 𝓤 H A mem run κs a g y e. refl;
+      blank = λ κs a y u p. p;
+      add = λ κs a y u p. p;
+      check-held = λ κs a y u p. p;
+      held = added;
+      form-number = λ κs a y u p. p;
     }

@@ -10,7 +10,6 @@ use borrow.Author.Tests.{ltb-true, ltb-false, leb-true, leb-false, lt-ltb, le-lt
 use lib.Dec.{leb, ltb}
 use lib.ListN.{length}
 use Rattle.rows.specs.Table.{rows}
-use Rattle.rows.proofs.Laws.{node-limits, node-fits}
 use Rattle.state.specs.declared.parts.Head.{Head}
 use Rattle.state.specs.Wellformed.{inReachOf, wellformedOf}
 use Rattle.effects.specs.Stored.{restartedStored}
@@ -25,6 +24,7 @@ use Rattle.head.specs.Refusals.{refusalOf}
 use Rattle.head.specs.Calls as head
 use Rattle.head.specs.Calls.{Tests, nodeFits, factoryOf, madeOf}
 use Rattle.head.specs.Outcome as alone
+use Rattle.head.proofs.Nodes.{node-same}
 use Rattle.head.proofs.Tests.{failed}
 use Rattle.head.proofs.Asked.{called-same, called-refusal}
 use Rattle.head.proofs.Refused.{refused-nothing}
@@ -38,7 +38,7 @@ use Rattle.demands.specs.Demand1.{Row, row, first, ownRows, nodeRow, row
 use Rattle.demands.proofs.Named.{ask-is}
 use Rattle.demands.proofs.Twenty.{twenty}
 
--- ---- a test and its opposite, and the test of a node number
+-- ---- a test and its opposite
 flip : (a b : ℕ) → leb b a ≡ not (ltb a b)
 flip a b = go (ltb a b) refl
   where
@@ -52,20 +52,6 @@ over a b = go (leb a b) refl
     go : (t : Bool) → leb a b ≡ t → ltb b a ≡ not t
     go true e = le-ltb b a (leb-true a b e)
     go false e = lt-ltb b a (leb-false a b e)
-
-node-test : (node : ℕ) → nodeFits node ≡ (leb 1 node && leb node 127)
-unfolding nodeFits
-node-test node = go (leb 1 node) (leb node 127) refl refl
-  where
-    -- a number outside does not fit
-    no : (t : Bool) → nodeFits node ≡ t → (1 ≤ node → node ≤ 127 → ⊥) → nodeFits node ≡ false
-    no true e out = let l = node-limits node e in absurd (out (l .0) (l .1))
-    no false e out = e
-
-    go : (x y : Bool) → leb 1 node ≡ x → leb node 127 ≡ y → nodeFits node ≡ (x && y)
-    go true true p q = node-fits node (leb-true 1 node p) (leb-true node 127 q)
-    go true false p q = no (nodeFits node) refl (λ a b. let g = leb-false node 127 q in omega arith)
-    go false y p q = no (nodeFits node) refl (λ a b. let g = leb-false 1 node p in omega arith)
 
 -- ---- tests in their order are rows of the table, in theirs
 abbrev asRow : Bool × Refusal → Row
@@ -103,8 +89,8 @@ module _ (l : Line) where
   unfolding growOf
   grow-number node false c n p q r = simp p
   grow-number node true false n p q r = simp (p, flip (l .count) 8, q)
-  grow-number node true true false p q r = simp (p, flip (l .count) 8, q, node-test node, r)
-  grow-number node true true true p q r = simp (p, flip (l .count) 8, q, node-test node, r)
+  grow-number node true true false p q r = simp (p, flip (l .count) 8, q, node-same node, r)
+  grow-number node true true true p q r = simp (p, flip (l .count) 8, q, node-same node, r)
 
   byte-number : (b t s : ℕ) (f r : Bool) → fitsOf l ≡ f → ltb s 10 ≡ r
       → refusedAs (product .onLine) (byte b t s) l ≡ first (rowsFor (byte b t s) l)
@@ -136,8 +122,8 @@ module _ (l : Line) where
 made-number : (node : ℕ) (t : Bool) → (leb 1 node && leb node 127) ≡ t
     → ofAnswer (madeOf node .answer) ≡ first (nodeRow node ∷ [])
 unfolding madeOf
-made-number node true e = simp (node-test node, e)
-made-number node false e = simp (node-test node, e)
+made-number node true e = simp (node-same node, e)
+made-number node false e = simp (node-same node, e)
 
 -- ---- the head that making hands back
 fresh-numbered : (node : ℕ) → Numbered (freshOf node) node
@@ -153,7 +139,7 @@ made-factory : (node n : ℕ) (t : Bool) → nodeFits node ≡ t → ofAnswer (m
     → (madeOf node .head ≡ factoryOf) × (factoryOf ≡ madeOf 31 .head) × Numbered factoryOf 31
 unfolding madeOf factoryOf
 made-factory node n true e d = absurd (let k : none ≡ some n = rw e at d in let z : _≡_ {A = ℕ} 0 1 = cc in omega arith)
-made-factory node n false e d = (rw e, rw (node-test 31), fresh-numbered 31)
+made-factory node n false e d = (rw e, rw (node-same 31), fresh-numbered 31)
 
 -- ---- a refused call changes nothing
 answered : (a : Answer) {n : ℕ} → ofAnswer a ≡ some n → (why : Refusal) × (a ≡ answer.Refused why)

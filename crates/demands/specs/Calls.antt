@@ -1,6 +1,7 @@
 -- The calls on a line, as a list: the public calls of the crate line with their arguments. Refused ones stand in it like any other.
 -- Assumes nothing.
 use Prim.Native.Nat.{ℕ, _<_}
+use mathlib.Core.List.{List, [], _∷_}
 use lib.IntN.{ℤ}
 
 -- what is asked of a head by its number: a measurement, a key state, power
@@ -32,3 +33,8 @@ IsByte (named j a) = Unit {0}
 abbrev pub Bytes : Calls → Type 0
 Bytes start = Unit {0}
 Bytes (cs ▸ c) = Bytes cs × IsByte c
+
+-- bytes, all at the time 0, with ten bytes of space
+abbrev pub hearing : Calls → List ℕ → Calls
+hearing cs [] = cs
+hearing cs (b ∷ bs) = hearing (cs ▸ byte b 0 10) bs

@@ -9,6 +9,7 @@ pub mod Twenty
 pub mod Demand1
 pub mod Demand2
 pub mod Demand3
+pub mod Ordered
 pub mod Wrong
 pub mod Cases
 pub mod Sentences

@@ -37,7 +37,12 @@ use Rattle.head.proofs.moves as head-moves
 use Rattle.head.proofs.refusal as head-refusal
 use Rattle.reply.proofs as reply
 use Rattle.line.proofs.calls as line-calls
+use Rattle.order_form.proofs.answer as order_form-answer
+use Rattle.order_form.proofs.form as order_form-form
+use Rattle.text.proofs.lines as text-lines
+use Rattle.text.proofs.numbers as text-numbers
 use Rattle.script.proofs as script
+use Rattle.form_text.proofs as form_text
 use Rattle.hex.proofs as hex
 
 -- whatever the arguments a, with two results y and z, and two contents u and v of all that is lent at the return (nothing, where none is lent
@@ -152,6 +157,17 @@ pub record Outcomes : Type 0 where
   pub line-calls-measure : One line-calls.measure.Kinds.ps line-calls.measure.Kinds.r line-calls.measure.Reads.Post
   pub line-calls-keys : One line-calls.keys.Kinds.ps line-calls.keys.Kinds.r line-calls.keys.Reads.Post
   pub line-calls-power : One line-calls.power.Kinds.ps line-calls.power.Kinds.r line-calls.power.Reads.Post
+  pub order-form-answer-number : One order_form-answer.Refusal.number.Kinds.ps order_form-answer.Refusal.number.Kinds.r order_form-answer.Refusal.number.Reads.Post
+  pub order-form-form-blank : One order_form-form.blank.Kinds.ps order_form-form.blank.Kinds.r order_form-form.blank.Reads.Post
+  pub order-form-form-add : One order_form-form.add.Kinds.ps order_form-form.add.Kinds.r order_form-form.add.Reads.Post
+  pub order-form-form-check : One order_form-form.check.Kinds.ps order_form-form.check.Kinds.r order_form-form.check.Reads.Post
+  pub text-lines-bare-length : One text-lines.bare_length.Kinds.ps text-lines.bare_length.Kinds.r text-lines.bare_length.Reads.Post
+  pub text-lines-take-in : One text-lines.take_in.Kinds.ps text-lines.take_in.Kinds.r text-lines.take_in.Reads.Post
+  pub text-numbers-decimal : One text-numbers.decimal.Kinds.ps text-numbers.decimal.Kinds.r text-numbers.decimal.Reads.Post
+  pub text-numbers-signed : One text-numbers.signed.Kinds.ps text-numbers.signed.Kinds.r text-numbers.signed.Reads.Post
+  pub text-numbers-pair : One text-numbers.pair.Kinds.ps text-numbers.pair.Kinds.r text-numbers.pair.Reads.Post
+  pub text-numbers-hex-bytes : One text-numbers.hex_bytes.Kinds.ps text-numbers.hex_bytes.Kinds.r text-numbers.hex_bytes.Reads.Post
   pub script-meaning : One script.meaning.Kinds.ps script.meaning.Kinds.r script.meaning.Reads.Post
   pub script-byte-at : One script.byte_at.Kinds.ps script.byte_at.Kinds.r script.byte_at.Reads.Post
+  pub form-text-entry : One form_text.entry.Kinds.ps form_text.entry.Kinds.r form_text.entry.Reads.Post
   pub hex-spell : One hex.spell.Kinds.ps hex.spell.Kinds.r hex.spell.Reads.Post

@@ -1,3 +1,4 @@
+pub mod Nodes
 pub mod Rest
 pub mod Keeps
 pub mod Tests

@@ -8,9 +8,10 @@ use lib.IntN.{pos, negsuc}
 use Rattle.script.specs.declared.Command.{Command}
 use Rattle.script.specs.declared.Command.the-variants.{Blank, Malformed, Grow, Send, Tick, Measure, Keys, Power, Space}
 use Rattle.script.specs.declared.arguments.Last.the-variants.{Nothing, PerhapsBytes}
-use Rattle.script.specs.Text.{text}
-use Rattle.script.specs.Words.{wordsOf, bareOf, sameOf}
-use Rattle.script.specs.Numbers.{numberOf, signedOf, hexOf, countOf, pairOf}
+use Rattle.text.specs.Text.{text}
+use Rattle.text.specs.Lines.{bareOf}
+use Rattle.script.specs.Words.{wordsOf, sameOf}
+use Rattle.text.specs.Numbers.{numberOf, signedOf, hexOf, countOf, pairOf}
 use Rattle.script.specs.Arguments.{takesOf, givenOf, unfitOf, lastOf, argumentsOf}
 use Rattle.script.specs.Meaning.{nameOf, orderOf, commandOf, spokenOf, meaningOf, byteAtOf}
 use Rattle.script.proofs.Sent.{read}

@@ -1,5 +1,4 @@
 pub mod Split
-pub mod Reading
 pub mod Taken
 pub mod Orders
 pub mod Told

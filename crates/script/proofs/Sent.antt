@@ -11,9 +11,10 @@ use lib.Dec.{eqb}
 use lib.ListN.{length, getD, take, drop, length-drop, length-take}
 use lib.Seq.{getD-take, getD-drop}
 use Rattle.script.specs.declared.Command.the-variants as command
-use Rattle.script.specs.Words.{Word, front, wordsOf, bareOf}
+use Rattle.text.specs.Lines.{bareOf}
+use Rattle.script.specs.Words.{Word, front, wordsOf}
 use Rattle.script.specs.Places.{wordsAt, startOf, afterOf}
-use Rattle.script.specs.Numbers.{hexOf, isHex, inPairs, bytesOf, pairOf, countOf}
+use Rattle.text.specs.Numbers.{hexOf, isHex, inPairs, bytesOf, pairOf, countOf}
 use Rattle.script.specs.Meaning.{meaningOf, byteAtOf}
 use Rattle.script.proofs.Split.{less-or-not, wordAt, some-left, none-left, fronts, front-short}
 use Rattle.script.proofs.Told.{Sending, sending}

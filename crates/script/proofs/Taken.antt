@@ -14,13 +14,13 @@ use lib.Seq.{drop-cons, getD-take}
 use Rattle.script.specs.declared.arguments.Arguments.{Arguments}
 use Rattle.script.specs.declared.arguments.Last.{Last}
 use Rattle.script.specs.declared.arguments.Last.the-variants.{Nothing, Signed, Bytes, PerhapsBytes}
-use Rattle.script.specs.declared.numbers.Number.{Number}
-use Rattle.script.specs.declared.numbers.Number.the-variants as number
-use Rattle.script.specs.declared.numbers.Value.{Value}
-use Rattle.script.specs.declared.numbers.Value.the-variants as value
+use Rattle.text.specs.declared.numbers.Number.{Number}
+use Rattle.text.specs.declared.numbers.Number.the-variants as number
+use Rattle.text.specs.declared.numbers.Value.{Value}
+use Rattle.text.specs.declared.numbers.Value.the-variants as value
 use Rattle.script.specs.Words.{Word}
 use Rattle.script.specs.Places.{wordsAt, startOf, afterOf, firstOf, soleOf}
-use Rattle.script.specs.Numbers.{numberOf, signedOf, countOf}
+use Rattle.text.specs.Numbers.{numberOf, signedOf, countOf}
 use Rattle.script.specs.Arguments.{givenOf, unfitOf, one, ifNumber, ifValue, ifSome, signed, bytes, lastOf, argumentsFrom}
 use Rattle.script.proofs.Split.{less-or-not, wordAt, some-left, none-left}
 

@@ -1,7 +1,7 @@
 -- What a `Send` and a `Space` tell of the words that they came from, and that a line too long is none: a property that holds of every way to
 -- a command is followed down the definition.
 -- Assumes nothing.
-use Prim.Native.Nat.{ℕ, suc, _-_, _<_, _≤_}
+use Prim.Native.Nat.{ℕ, suc, _<_, _≤_}
 use native.Mathlib.Omega.{arith}
 use mathlib.Core.Path.{_≡_, refl, subst}
 use mathlib.Core.Bool.{Bool, true, false, cond}
@@ -9,20 +9,22 @@ use mathlib.Core.List.{List, [], _∷_}
 use borrow.Author.Tests.{eqb-false, lt-ltb}
 use lib.Dec.{ltb, eqb}
 use lib.IntN.{pos}
-use lib.ListN.{length, getD, set, take, length-take}
+use lib.ListN.{length, set}
 use Rattle.script.specs.declared.Command.{Command}
 use Rattle.script.specs.declared.Command.the-variants as command
 use Rattle.script.specs.declared.Name.{Name}
 use Rattle.script.specs.declared.Name.the-variants as name
-use Rattle.script.specs.declared.numbers.Number.{Number}
-use Rattle.script.specs.declared.numbers.Number.the-variants as number
+use Rattle.text.specs.declared.numbers.Number.{Number}
+use Rattle.text.specs.declared.numbers.Number.the-variants as number
 use Rattle.script.specs.declared.arguments.Arguments.{Arguments}
 use Rattle.script.specs.declared.arguments.Last.the-variants as last
-use Rattle.script.specs.Words.{Word, wordsOf, bareOf}
-use Rattle.script.specs.Numbers.{numberOf, countOf}
+use Rattle.text.specs.Lines.{bareOf}
+use Rattle.script.specs.Words.{Word, wordsOf}
+use Rattle.text.specs.Numbers.{numberOf, countOf}
 use Rattle.script.specs.Arguments.{noNumbers, givenOf, unfitOf, ifNumber, ifSome, lastOf, argumentsOf}
 use Rattle.script.specs.Meaning.{whole, largestSpace, longest, rowOf, ifFit, isNote, nameOf, orderOf, commandOf, spokenOf, meaningOf}
-use Rattle.script.proofs.Reading.{number-within}
+use Rattle.text.proofs.Spelled.{number-within}
+use Rattle.text.proofs.Bare.{bare-long}
 
 -- the words of a `Send`
 pub record Sending (ws : List Word) (time from count : ℕ) : Type 0 where
@@ -128,14 +130,6 @@ pub space-within : (line : List ℕ) {size : ℕ} → meaningOf line ≡ command
 space-within line e = subst (Told (wordsOf (bareOf line))) e (told line)
 
 -- a line of more than 4,097 bytes is none, whatever stands in it: no reader needs more of it to know
-bare-long : (line : List ℕ) → length line ≤ suc (length (bareOf line))
-unfolding bareOf
-bare-long line = go (eqb (getD line (length line - 1) 0) 13)
-  where
-    go : (b : Bool) → length line ≤ suc (length (cond b (take (length line - 1) line) line))
-    go true = simp length-take (omega arith)
-    go false = omega arith
-
 pub too-long : (line : List ℕ) → suc longest < length line → meaningOf line ≡ command.Malformed
 unfolding meaningOf spokenOf
 too-long line h = let k = bare-long line in simp (lt-ltb longest (length (bareOf line)) (omega arith))

@@ -10,12 +10,12 @@ use Rattle.script.specs.declared.arguments.Arguments.{Arguments}
 use Rattle.script.specs.declared.arguments.Takes.{Takes}
 use Rattle.script.specs.declared.arguments.Last.{Last}
 use Rattle.script.specs.declared.arguments.Last.the-variants as last
-use Rattle.script.specs.declared.numbers.Number.{Number}
-use Rattle.script.specs.declared.numbers.Number.the-variants as number
-use Rattle.script.specs.declared.numbers.Value.{Value}
-use Rattle.script.specs.declared.numbers.Value.the-variants as value
+use Rattle.text.specs.declared.numbers.Number.{Number}
+use Rattle.text.specs.declared.numbers.Number.the-variants as number
+use Rattle.text.specs.declared.numbers.Value.{Value}
+use Rattle.text.specs.declared.numbers.Value.the-variants as value
 use Rattle.script.specs.Words.{Word}
-use Rattle.script.specs.Numbers.{numberOf, signedOf, countOf}
+use Rattle.text.specs.Numbers.{numberOf, signedOf, countOf}
 
 -- no number; there is room for six, as many as a command may take
 abbrev pub noNumbers : List ℕ

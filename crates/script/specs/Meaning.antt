@@ -15,9 +15,10 @@ use Rattle.script.specs.declared.arguments.Arguments.{Arguments}
 use Rattle.script.specs.declared.arguments.Takes.{Takes}
 use Rattle.script.specs.declared.arguments.Last.{Last}
 use Rattle.script.specs.declared.arguments.Last.the-variants as last
-use Rattle.script.specs.Text.{text}
-use Rattle.script.specs.Words.{Word, wordsOf, bareOf, sameOf}
-use Rattle.script.specs.Numbers.{pairOf}
+use Rattle.text.specs.Text.{text}
+use Rattle.text.specs.Lines.{bareOf}
+use Rattle.script.specs.Words.{Word, wordsOf, sameOf}
+use Rattle.text.specs.Numbers.{pairOf}
 use Rattle.script.specs.Arguments.{takesOf, argumentsOf}
 
 -- the largest number of 32 bits

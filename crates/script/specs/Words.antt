@@ -35,10 +35,6 @@ wordsFrom inside at (c ∷ cs) =
 unfoldable pub wordsOf : List ℕ → List Word
 wordsOf line = wordsFrom false 0 line
 
--- the line without one carriage return at its end
-unfoldable pub bareOf : List ℕ → List ℕ
-bareOf line = cond (eqb (getD line (length line - 1) 0) (code "\r")) (take (length line - 1) line) line
-
 -- a word is a name where it has the same characters, in the same case
 unfoldable pub sameOf : List ℕ → List ℕ → Bool
 sameOf [] [] = true

@@ -1,8 +1,8 @@
 // A command's arguments, read once for all commands: numbers, each up to its limit, and then perhaps one word more.
-use crate::numbers;
-use crate::numbers::Number;
-use crate::numbers::Value;
 use crate::words;
+use text::numbers;
+use text::numbers::Number;
+use text::numbers::Value;
 ghost use mathlib.Core.Path.{_≡_};
 ghost use Rattle.script.specs.Places.{wordsAt};
 ghost use Rattle.script.specs.Arguments.{unfitOf, givenOf, lastOf, argumentsOf};

@@ -1,11 +1,12 @@
 // What a line of a simulator script means.
 mod arguments;
-mod numbers;
 mod words;
 
 use arguments::Arguments;
 use arguments::Last;
 use arguments::Takes;
+use text::lines;
+use text::numbers;
 ghost use mathlib.Core.Path.{_≡_};
 ghost use mathlib.Core.Bool.{cond};
 ghost use Rattle.script.specs.Words.{sameOf};
@@ -61,7 +62,8 @@ enum Name {
 pub fn meaning(line: &[u8]) -> Command
     ensures { λ r. ⌜ r ≡ meaningOf (now (line .entry)) ⌝ }
 {
-    spoken(words::bare(line))
+    let n = lines::bare_length(line);
+    spoken(&line[..n])
 }
 
 // Byte i of the hex word that starts at the place `from`; 0 where there are no two hex digits.

@@ -1,7 +1,7 @@
 // A line's words, by the places where they start and end.
 ghost use mathlib.Core.Path.{_≡_};
 ghost use mathlib.Core.Bool.{_||_};
-ghost use Rattle.script.specs.Words.{isGap, bareOf, sameOf};
+ghost use Rattle.script.specs.Words.{isGap, sameOf};
 ghost use Rattle.script.specs.Places.{startOf, endOf, wordsAt, firstOf, afterOf, soleOf};
 
 // A blank or a tab.
@@ -9,21 +9,6 @@ fn gap(b: u8) -> bool
     ensures { λ r. ⌜ r ≡ isGap b ⌝ }
 {
     (b == b' ') | (b == b'\t')
-}
-
-// The line without one carriage return at its end.
-pub(crate) fn bare(line: &[u8]) -> &[u8]
-    ensures { λ r. ⌜ now r ≡ bareOf (now (line .entry)) ⌝ }
-{
-    let n = line.len();
-    if n == 0 {
-        return line;
-    }
-    let end = n - 1;
-    if line[end] == b'\r' {
-        return &line[0..end];
-    }
-    line
 }
 
 // Past the gaps at the place `from`.

@@ -2,10 +2,12 @@
 use crate::desk;
 use crate::desk::Desk;
 use libc::STDIN_FILENO;
+use text::lines;
 ghost use mathlib.Core.Path.{_≡_};
 ghost use Prim.Native.Nat.{_≤_};
-ghost use lib.ListN.{length, take};
-ghost use Rattle.simulate.specs.Reading.{keptOf, endedOf, readOf, progressOf};
+ghost use lib.ListN.{length};
+ghost use Rattle.text.specs.Reading.{endedOf, closedOf, readOf};
+ghost use Rattle.simulate.specs.Reading.{notedOf, stateOf, progressOf};
 
 // As much of a line as its meaning needs: a longer one is malformed whatever it holds.
 const KEPT: usize = 4098;
@@ -20,24 +22,11 @@ struct Reading {
     ended: bool,
 }
 
-// A byte of a line, kept where there is room; how much is kept then.
-fn keep(line: &mut [u8], kept: usize, b: u8) -> usize
-    requires { ⌜ kept ≤ length (now line) ⌝ }
-    ensures { λ r. ⌜ r ≤ length (now (line .entry)) ⌝ }
-    ensures { λ r. ⌜ take r (now (line .exit)) ≡ keptOf (length (now (line .entry))) (take kept (now (line .entry))) b ⌝ }
-{
-    if kept < line.len() {
-        line[kept] = b;
-        return kept + 1;
-    }
-    kept
-}
-
 // The end of a line.
 fn end(reading: Reading, line: &[u8]) -> Reading
     requires { ⌜ reading .kept ≤ length (now line) ⌝ }
     ensures { λ r. ⌜ r .kept ≡ 0 ⌝ }
-    ensures { λ r. ⌜ progressOf r (now (line .entry)) ≡ endedOf (progressOf reading (now (line .entry))) ⌝ }
+    ensures { λ r. ⌜ progressOf r (now (line .entry)) ≡ endedOf notedOf (progressOf reading (now (line .entry))) ⌝ }
 {
     let number = std::num::wrapping_add_u64(reading.lines, 1);
     let kept = reading.kept;
@@ -56,24 +45,36 @@ fn end(reading: Reading, line: &[u8]) -> Reading
 fn take_in(reading: Reading, line: &mut [u8], piece: &[u8]) -> Reading
     requires { ⌜ reading .kept ≤ length (now line) ⌝ }
     ensures { λ r. ⌜ r .kept ≤ length (now (line .entry)) ⌝ }
-    ensures { λ r. ⌜ progressOf r (now (line .exit)) ≡ readOf (length (now (line .entry))) (progressOf reading (now (line .entry))) (now (piece .entry)) ⌝ }
+    ensures { λ r. ⌜ progressOf r (now (line .exit)) ≡ readOf notedOf (length (now (line .entry))) (progressOf reading (now (line .entry))) (now (piece .entry)) ⌝ }
 {
     let mut r = reading;
     let mut i: usize = 0;
     while i < piece.len() {
-        let b = piece[i];
-        i += 1;
-        if b == b'\n' {
+        let t = lines::take_in(line, r.kept, piece, i);
+        r.kept = t.kept;
+        i = t.at;
+        if t.ended {
             r = end(r, line);
-        } else {
-            let kept = keep(line, r.kept, b);
-            r.kept = kept;
         }
     }
     r
 }
 
-// What one read brings. At the end of the script, what is kept is a last line without a newline.
+// The end of the script: what is kept, if anything, is a last line without a newline.
+fn closed(reading: Reading, line: &[u8]) -> Reading
+    requires { ⌜ reading .kept ≤ length (now line) ⌝ }
+    ensures { λ r. ⌜ r .kept ≡ 0 ⌝ }
+    ensures { λ r. ⌜ stateOf r ≡ closedOf notedOf (progressOf reading (now (line .entry))) ⌝ }
+{
+    let mut r = reading;
+    if 0 < r.kept {
+        r = end(r, line);
+    }
+    r.ended = true;
+    r
+}
+
+// What one read brings.
 fn turn(reading: Reading, line: &mut [u8]) -> Reading
     requires { ⌜ reading .kept ≤ length (now line) ⌝ }
     ensures { λ r. ⌜ r .kept ≤ length (now (line .entry)) ⌝ }
@@ -87,11 +88,7 @@ fn turn(reading: Reading, line: &mut [u8]) -> Reading
         return r;
     }
     if got == 0 {
-        if 0 < r.kept {
-            r = end(r, line);
-        }
-        r.ended = true;
-        return r;
+        return closed(r, line);
     }
     let n = io::count(got, &piece);
     take_in(r, line, &piece[..n])

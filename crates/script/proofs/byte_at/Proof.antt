@@ -7,9 +7,9 @@ use native.Mathlib.Omega.{arith}
 use borrow.Author.Needs.{needs}
 use denote.Ref.{now}
 use lib.ListN.{length, List·getD-eq-default}
-use Rattle.script.specs.Numbers.{hexOf, pairOf}
+use Rattle.text.specs.Numbers.{hexOf, pairOf}
 use Rattle.script.specs.Meaning.{byteAtOf}
-use Rattle.script.proofs.Reading.{and-no}
+use Rattle.text.proofs.Spelled.{and-no}
 use Rattle.script.proofs.byte_at.Statement.{statement}
 use Rattle.script.proofs.byte_at.Tie as tie
 

@@ -3,6 +3,7 @@
 
 use crate::random::Random;
 use crate::telegrams::Author;
+use crate::text::Text;
 use reference::head::{Head, HIGHEST_MEASUREMENT};
 use reference::line::MOST_HEADS;
 use reference::rows;
@@ -18,23 +19,6 @@ const LINES_THAT_ARE_NONE: &str = "heads 1|HEAD 1|Send 0 00|head|head 1 2|head -
     measure 0|measure 0 1 2|measure 0 2147483648|measure 0 -2147483649|measure 0 -|measure 0 --1|\
     measure 0 +1|measure -0 1|keys 0|keys 0 -1|power|power 0 0|space 65|space -1";
 
-/// Lines without their newlines; the last may lack its own.
-#[derive(Clone)]
-pub struct Script {
-    pub lines: Vec<Vec<u8>>,
-    pub ends_in_newline: bool,
-}
-
-impl Script {
-    pub fn text(&self) -> Vec<u8> {
-        let mut text = self.lines.join(&b'\n');
-        if self.ends_in_newline {
-            text.push(b'\n');
-        }
-        text
-    }
-}
-
 pub struct Generator {
     random: Random,
     model: Simulation,
@@ -42,7 +26,7 @@ pub struct Generator {
     lines: Vec<Vec<u8>>,
 }
 
-pub fn script(seed: u64, number: u64) -> Script {
+pub fn script(seed: u64, number: u64) -> Text {
     let mut random = Random::new(seed, number);
     let now = match random.below(4) {
         0 => 0,
@@ -57,7 +41,7 @@ pub fn script(seed: u64, number: u64) -> Script {
     // A step may give several lines.
     generator.lines.truncate(LINES);
     let ends_in_newline = generator.random.chance(75);
-    Script { lines: generator.lines, ends_in_newline }
+    Text { lines: generator.lines, ends_in_newline }
 }
 
 impl Generator {

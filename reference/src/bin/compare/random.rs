@@ -1,14 +1,14 @@
-//! A small generator of random numbers (splitmix64), so that a seed gives the same scripts everywhere.
+//! A small generator of random numbers (splitmix64), so that a seed gives the same everywhere.
 
 pub struct Random {
     state: u64,
 }
 
 impl Random {
-    /// The numbers of one script: seed and script number together, so that any script can be made alone.
-    pub fn new(seed: u64, script_number: u64) -> Random {
+    /// The numbers of one script or form: seed and its number together, so that any can be made alone.
+    pub fn new(seed: u64, number: u64) -> Random {
         let mut random = Random { state: seed };
-        random.state = random.next() ^ script_number;
+        random.state = random.next() ^ number;
         random
     }
 

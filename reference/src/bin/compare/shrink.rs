@@ -1,33 +1,74 @@
-//! Makes a script that shows a difference as short as possible.
+//! Makes a script or an order form that shows a difference as short as possible.
 
-use crate::generator::Script;
+use crate::text::Text;
 use reference::script::{hex, meaning, Command, Meaning};
 use reference::telegram::TELEGRAM_LENGTH;
 
-type StillDiffers<'a, T> = &'a mut dyn FnMut(&T) -> bool;
+pub type StillDiffers<'a, T> = &'a mut dyn FnMut(&T) -> bool;
+
+/// Each try runs a program, and the bytes of a long form are many.
+const MOST_TRIES_FOR_A_FORM: u32 = 2_000;
 
 /// Drops lines, heads and bytes of sends, and again, until nothing more can go.
-pub fn shrink(mut script: Script, still_differs: StillDiffers<Script>) -> Script {
+pub fn shrink_script(mut script: Text, still_differs: StillDiffers<Text>) -> Text {
     loop {
-        let length_before = script.text().len();
+        let length_before = script.bytes().len();
         shrink_lines(&mut script, still_differs);
         shrink_heads(&mut script, still_differs);
         shrink_sends(&mut script, still_differs);
-        if script.text().len() == length_before {
+        if script.bytes().len() == length_before {
             return script;
         }
     }
 }
 
-fn shrink_lines(script: &mut Script, still_differs: StillDiffers<Script>) {
-    let ends_in_newline = script.ends_in_newline;
-    let mut differs = |lines: &[Vec<u8>]| still_differs(&Script { lines: lines.to_vec(), ends_in_newline });
-    shrink_list(&mut script.lines, &mut differs);
-    drop_pairs(&mut script.lines, &mut differs);
+/// Drops lines and bytes of lines, and again, until nothing more can go or enough has been tried.
+pub fn shrink_form(mut form: Text, still_differs: StillDiffers<Text>) -> Text {
+    let mut tries = 0;
+    let mut differs = |form: &Text| {
+        tries += 1;
+        tries <= MOST_TRIES_FOR_A_FORM && still_differs(form)
+    };
+    end_in_newline(&mut form, &mut differs);
+    loop {
+        let length_before = form.bytes().len();
+        shrink_lines(&mut form, &mut differs);
+        shrink_bytes(&mut form, &mut differs);
+        if form.bytes().len() == length_before {
+            return form;
+        }
+    }
+}
+
+/// A newline too few is only to be seen where it makes the difference.
+fn end_in_newline(form: &mut Text, still_differs: StillDiffers<Text>) {
+    let ended = Text { ends_in_newline: true, ..form.clone() };
+    if still_differs(&ended) {
+        *form = ended;
+    }
+}
+
+fn shrink_bytes(form: &mut Text, still_differs: StillDiffers<Text>) {
+    for number in 0..form.lines.len() {
+        let mut line = form.lines[number].clone();
+        shrink_list(&mut line, &mut |line| {
+            let mut changed = form.clone();
+            changed.lines[number] = line.to_vec();
+            still_differs(&changed)
+        });
+        form.lines[number] = line;
+    }
+}
+
+fn shrink_lines(text: &mut Text, still_differs: StillDiffers<Text>) {
+    let ends_in_newline = text.ends_in_newline;
+    let mut differs = |lines: &[Vec<u8>]| still_differs(&Text { lines: lines.to_vec(), ends_in_newline });
+    shrink_list(&mut text.lines, &mut differs);
+    drop_pairs(&mut text.lines, &mut differs);
 }
 
 /// A head that others follow can only go if the calls on those name them by one less.
-fn shrink_heads(script: &mut Script, still_differs: StillDiffers<Script>) {
+fn shrink_heads(script: &mut Text, still_differs: StillDiffers<Text>) {
     let is_head = |line: &Vec<u8>| matches!(meaning(line), Meaning::Command(Command::Head { .. }));
     let mut number = 0;
     while let Some((line, _)) = script.lines.iter().enumerate().filter(|(_, line)| is_head(line)).nth(number)
@@ -59,7 +100,7 @@ fn renumber(line: &mut Vec<u8>, gone: u32) {
     *line = renumbered.into_bytes();
 }
 
-fn shrink_sends(script: &mut Script, still_differs: StillDiffers<Script>) {
+fn shrink_sends(script: &mut Text, still_differs: StillDiffers<Text>) {
     for number in 0..script.lines.len() {
         let Meaning::Command(Command::Send { time, mut bytes }) = meaning(&script.lines[number]) else {
             continue;
@@ -108,7 +149,7 @@ fn drop_chunks<T: Clone>(list: &mut Vec<T>, size: usize, still_differs: StillDif
     has_shrunk
 }
 
-/// Drops lines that can only go together, in a script that is short enough to try all pairs.
+/// Drops lines that can only go together, in a text that is short enough to try all pairs.
 fn drop_pairs(lines: &mut Vec<Vec<u8>>, still_differs: StillDiffers<[Vec<u8>]>) {
     const SHORT: usize = 20;
     let mut first = 0;
@@ -130,9 +171,9 @@ fn drop_pairs(lines: &mut Vec<Vec<u8>>, still_differs: StillDiffers<[Vec<u8>]>) 
 mod tests {
     use super::*;
 
-    fn script(lines: &[&str]) -> Script {
+    fn text(lines: &[&str]) -> Text {
         let lines = lines.iter().map(|line| line.as_bytes().to_vec()).collect();
-        Script { lines, ends_in_newline: true }
+        Text { lines, ends_in_newline: true }
     }
 
     #[test]
@@ -145,29 +186,53 @@ mod tests {
 
     #[test]
     fn bytes_of_sends_go_too() {
-        let script = script(&["head 31", "tick 5", "send 7 001122334455", "# x"]);
-        let mut has_33 = |script: &Script| script.text().windows(2).any(|pair| pair == b"33");
-        assert_eq!(shrink(script, &mut has_33).text(), b"send 7 33\n");
+        let script = text(&["head 31", "tick 5", "send 7 001122334455", "# x"]);
+        let mut has_33 = |script: &Text| script.bytes().windows(2).any(|pair| pair == b"33");
+        assert_eq!(shrink_script(script, &mut has_33).bytes(), b"send 7 33\n");
     }
 
     #[test]
     fn heads_before_the_one_needed_go() {
-        let script = script(&["head 1", "head 2", "head 3", "keys 1 7", "power 2"]);
-        let mut powers_a_head = |script: &Script| {
-            let answers = crate::program::reference_answers(&script.text());
+        let script = text(&["head 1", "head 2", "head 3", "keys 1 7", "power 2"]);
+        let mut powers_a_head = |script: &Text| {
+            let answers = crate::answers::reference_script(&script.bytes());
             answers.last().is_some_and(|answer| answer == "ok")
-                && script.text().windows(5).any(|word| word == b"power")
+                && script.bytes().windows(5).any(|word| word == b"power")
         };
-        assert_eq!(shrink(script, &mut powers_a_head).text(), b"head 3\npower 0\n");
+        assert_eq!(shrink_script(script, &mut powers_a_head).bytes(), b"head 3\npower 0\n");
     }
 
     #[test]
     fn lines_that_need_each_other_go_together() {
-        let script = script(&["head 1", "keys 0 1", "keys 0 0"]);
-        let mut ones_and_zeros_are_even = |script: &Script| {
+        let script = text(&["head 1", "keys 0 1", "keys 0 0"]);
+        let mut ones_and_zeros_are_even = |script: &Text| {
             let count = |line: &[u8]| script.lines.iter().filter(|other| *other == line).count();
             count(b"keys 0 1") == count(b"keys 0 0") && count(b"head 1") == 1
         };
-        assert_eq!(shrink(script, &mut ones_and_zeros_are_even).text(), b"head 1\n");
+        assert_eq!(shrink_script(script, &mut ones_and_zeros_are_even).bytes(), b"head 1\n");
+    }
+
+    #[test]
+    fn only_the_bytes_that_are_needed_stay_in_a_form() {
+        let form = text(&["serial,node", "4711,12", "# x", "4712,12", "4713,14"]);
+        let mut repeats_a_number = |form: &Text| {
+            let answers = crate::answers::reference_form(&form.bytes());
+            answers[0].starts_with("line ") && answers[0].contains("node number")
+        };
+        let shrunk = shrink_form(Text { ends_in_newline: false, ..form }, &mut repeats_a_number);
+        assert_eq!(shrunk.bytes(), b"1,12\n2,12\n");
+    }
+
+    #[test]
+    fn a_form_of_long_lines_is_not_tried_for_ever() {
+        let line = "-".repeat(60_000);
+        let mut tries = 0;
+        let shrunk = shrink_form(text(&[&line, &line]), &mut |form| {
+            tries += 1;
+            form.lines.iter().any(|line| line.len() > 4_096)
+        });
+        assert_eq!(shrunk.lines.len(), 1);
+        assert!(shrunk.lines[0].len() < 4_110, "{}", shrunk.lines[0].len());
+        assert_eq!(tries, MOST_TRIES_FOR_A_FORM);
     }
 }

@@ -12,7 +12,7 @@ use lib.Dec.{eqb}
 use lib.ListN.{length, getD, drop, drop-of-length-le}
 use lib.Seq.{drop-cons}
 use Rattle.script.specs.Words.{sameOf}
-use Rattle.script.proofs.Reading.{and-no}
+use Rattle.text.proofs.Spelled.{and-no}
 use Rattle.script.proofs.words.is.Statement.{statement}
 use Rattle.script.proofs.words.is.Tie as tie
 

@@ -4,14 +4,15 @@ use Prim.Native.Nat.{ℕ}
 use mathlib.Core.List.{[]}
 use mathlib.Core.Path.{_≡_, refl, sym}
 use lib.Seq.{length-take-le}
+use Rattle.text.specs.Reading.{Progress}
 use Rattle.simulate.specs.declared.desk.Desk.{Desk}
-use Rattle.simulate.specs.Reading.{Progress}
+use Rattle.simulate.specs.Reading.{State}
 use Rattle.simulate.proofs.reading.end.Statement.{statement}
 use Rattle.simulate.proofs.reading.end.Tie as tie
 
 -- the two parts make the whole
 whole : {d e : Desk} {m n : ℕ} → d ≡ e → m ≡ n
-    → _≡_ {A = Progress} (record { desk = d; lines = m; text = [] }) (record { desk = e; lines = n; text = [] })
+    → _≡_ {A = Progress State} (record { state = record { desk = d; lines = m }; text = [] }) (record { state = record { desk = e; lines = n }; text = [] })
 whole p q = rw (p, q)
 
 pub end-spec : {M : Type 1} → statement M

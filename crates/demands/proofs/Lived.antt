@@ -1,0 +1,65 @@
+-- A line grown by two forms, one that is sent back and one that is accepted, and calls that give no head its number: whether they do is tried, one
+-- by one and head by head.
+-- Assumes nothing.
+use Prim.Native.Nat.{ℕ, _≤_}
+use mathlib.Core.Path.{_≡_, refl}
+use mathlib.Core.Bool.{Bool, true, false, _&&_}
+use mathlib.Core.Option.{Option, none, some}
+use native.Mathlib.Omega.{arith}
+use lib.Dec.{T}
+use Rattle.rows.proofs.Span.{both, span, in-span}
+use Rattle.order_form.specs.declared.answer.Answer.the-variants.{AllDiffer}
+use Rattle.order_form.specs.Rows.{firstOf}
+use Rattle.order_form.specs.Check.{repeatFrom, answerOf}
+use Rattle.demands.specs.Calls.{Calls, start, _▸_}
+use Rattle.demands.specs.Past.{asked, count}
+use Rattle.demands.specs.Run.{product}
+use Rattle.demands.specs.Demand3.{touch}
+use Rattle.demands.specs.Ordered.{grownBy, _then_, Unnumbered, FormsAreSafe, accident, asking, Accident, apart, lived, Lived}
+use Rattle.demands.proofs.Computing.{computing}
+use Rattle.demands.proofs.Ordered.{safe}
+
+-- a call leaves a parameter alone
+leaves : Option ℕ → Bool
+leaves none = true
+leaves (some v) = false
+
+leaves-none : (o : Option ℕ) → T (leaves o) → o ≡ none
+unfolding leaves
+leaves-none none t = refl
+leaves-none (some v) t = absurd t
+
+-- after the calls cs, none of the calls ds gives a head that is there then its number
+tried : Calls → Calls → Bool
+tried cs start = true
+tried cs (ds ▸ d) = tried cs ds && span (λ k. leaves (touch (cs then ds) d k 0)) 0 (count ((cs then ds) ▸ d))
+
+tried-all : (cs ds : Calls) → T (tried cs ds) → Unnumbered cs ds
+unfolding tried
+tried-all cs start t = tt
+tried-all cs (ds ▸ d) t =
+    let q = both (tried cs ds) _ t in
+    let n = count ((cs then ds) ▸ d) in
+    (tried-all cs ds (q .0), λ k h. leaves-none _ (in-span _ 0 n (q .1) k (omega arith) (omega arith)))
+
+two-reply : FormsAreSafe product (λ rows. AllDiffer) → ⊥
+unfolding computing leaves tried
+two-reply passed =
+    let two : 2 ≤ 1 = passed accident refl (omega arith) .one-reply asking 0x3F 0 10 2 (tried-all (grownBy accident) asking tt) refl in
+    omega (arith, two)
+
+pub sent-back : Accident product answerOf
+unfolding computing answerOf repeatFrom firstOf
+sent-back = record { sent-back = refl; collides = refl; needed = two-reply }
+
+pub lived-through : Lived product answerOf
+unfolding computing asked answerOf repeatFrom firstOf leaves tried
+lived-through =
+    record {
+      let-pass = refl;
+      nine-pass = refl;
+      ninth = refl;
+      worth = safe apart refl (omega arith);
+      unnumbered = tried-all (grownBy apart) lived tt;
+      replies = refl;
+    }

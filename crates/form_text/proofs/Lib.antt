@@ -1,0 +1,11 @@
+pub mod Tests
+pub mod Dropped
+pub mod Split
+pub mod Sides
+pub mod Long
+pub mod Examples
+pub mod Bytes
+pub mod Spaces
+pub mod Spelt
+pub mod Taken
+pub mod Only

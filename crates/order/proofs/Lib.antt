@@ -1,0 +1,3 @@
+pub mod Stands
+pub mod Forms
+pub mod Examples

@@ -1,0 +1,9 @@
+pub mod First
+pub mod Repeats
+pub mod Kept
+pub mod Held
+pub mod Places
+pub mod Claims
+pub mod Demands
+pub mod Only
+pub mod Wrongs

@@ -1,0 +1,5 @@
+pub mod Rows
+pub mod Check
+pub mod Held
+pub mod Demand
+pub mod Wrong

@@ -1,0 +1,9 @@
+pub mod Spelled
+pub mod Bare
+pub mod Filled
+pub mod Moved
+pub mod Leads
+pub mod Begun
+pub mod Pieces
+pub mod Closed
+pub mod Newlines
