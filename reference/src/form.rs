@@ -1,4 +1,4 @@
-//! The order form: what its lines mean, and the one answer to the whole of it.
+//! The order form: what its lines mean, and the answer to the whole of it.
 
 use crate::script::{unsigned, LONGEST_LINE};
 use std::fmt;
@@ -16,15 +16,21 @@ struct Row {
     node: u32,
 }
 
-/// Each with the line that is named.
+/// Each with the line that is named; for a form that is sent back, also with the lowest number that is free.
 #[derive(Clone, Copy, Debug, PartialEq, Eq)]
 pub enum Answer {
     Accepted { rows: usize },
-    SerialRepeated { line: usize, serial: u32, earlier: usize },
-    NodeRepeated { line: usize, node: u32, earlier: usize },
+    SentBack { repeat: Repeat, lowest_free: Option<u32> },
     NodeOutOfRange { line: usize, node: u32 },
     TooManyRows,
     Malformed { line: usize },
+}
+
+/// What the row in a line repeats, and the line of the earlier row that has it.
+#[derive(Clone, Copy, Debug, PartialEq, Eq)]
+pub enum Repeat {
+    Serial { line: usize, serial: u32, earlier: usize },
+    Node { line: usize, node: u32, earlier: usize },
 }
 
 impl Answer {
@@ -40,11 +46,11 @@ impl fmt::Display for Answer {
                 let noun = if rows == 1 { "row" } else { "rows" };
                 write!(to, "accepted: {rows} {noun}, all serials and all numbers differ")
             }
-            Answer::SerialRepeated { line, serial, earlier } => {
-                write!(to, "line {line}: serial {serial} stands already in line {earlier}")
+            Answer::SentBack { repeat, lowest_free: Some(node) } => {
+                write!(to, "{repeat}\nthe lowest free number is {node}")
             }
-            Answer::NodeRepeated { line, node, earlier } => {
-                write!(to, "line {line}: node number {node} stands already in line {earlier}")
+            Answer::SentBack { repeat, lowest_free: None } => {
+                write!(to, "{repeat}\nno number from 1 to {HIGHEST_NODE} is free")
             }
             Answer::NodeOutOfRange { line, node } => {
                 write!(to, "refused 7: line {line}: node number {node} is not 1 to {HIGHEST_NODE}")
@@ -57,7 +63,20 @@ impl fmt::Display for Answer {
     }
 }
 
-/// Answers a whole form with one line, and gives whether it is accepted.
+impl fmt::Display for Repeat {
+    fn fmt(&self, to: &mut fmt::Formatter) -> fmt::Result {
+        match *self {
+            Repeat::Serial { line, serial, earlier } => {
+                write!(to, "line {line}: serial {serial} stands already in line {earlier}")
+            }
+            Repeat::Node { line, node, earlier } => {
+                write!(to, "line {line}: node number {node} stands already in line {earlier}")
+            }
+        }
+    }
+}
+
+/// Answers a whole form, and gives whether it is accepted.
 pub fn run(mut input: impl Read, mut output: impl Write) -> io::Result<bool> {
     let mut form = Vec::new();
     input.read_to_end(&mut form)?;
@@ -80,17 +99,25 @@ pub fn check(form: &[u8]) -> Answer {
         return Answer::NodeOutOfRange { line, node };
     }
     let mut repeats = (0..rows.len()).filter_map(|number| repeat(&rows[number], &rows[..number]));
-    repeats.next().unwrap_or(Answer::Accepted { rows: rows.len() })
+    match repeats.next() {
+        Some(repeat) => Answer::SentBack { repeat, lowest_free: lowest_free(&rows) },
+        None => Answer::Accepted { rows: rows.len() },
+    }
 }
 
 /// What a row repeats of those before it. The two repeats may be of different rows; the serial is told.
-fn repeat(row: &Row, earlier: &[Row]) -> Option<Answer> {
+fn repeat(row: &Row, earlier: &[Row]) -> Option<Repeat> {
     let Row { line, serial, node } = *row;
     if let Some(other) = earlier.iter().find(|other| other.serial == serial) {
-        return Some(Answer::SerialRepeated { line, serial, earlier: other.line });
+        return Some(Repeat::Serial { line, serial, earlier: other.line });
     }
     let other = earlier.iter().find(|other| other.node == node)?;
-    Some(Answer::NodeRepeated { line, node, earlier: other.line })
+    Some(Repeat::Node { line, node, earlier: other.line })
+}
+
+/// The lowest number that no row has. Those after a repeat count too: the clerk goes on with the whole form.
+fn lowest_free(rows: &[Row]) -> Option<u32> {
+    (1..=HIGHEST_NODE).find(|&node| rows.iter().all(|row| row.node != node))
 }
 
 /// The rows of a form, or the number of its first malformed line.

@@ -7,9 +7,9 @@ const ERROR_AT_2: &str = "error at line 2: not a serial and a node number";
 const NO_ROWS: &str = "accepted: 0 rows, all serials and all numbers differ";
 const ONE_ROW: &str = "accepted: 1 row, all serials and all numbers differ";
 const TWO_ROWS: &str = "accepted: 2 rows, all serials and all numbers differ";
-const NODE_1_TWICE: &str = "line 2: node number 1 stands already in line 1";
+const NODE_1_TWICE: &str = "line 2: node number 1 stands already in line 1\nthe lowest free number is 2";
 
-/// The answer is one line; only one that begins with 'accepted' is given for a form that is.
+/// The answer is these lines and no more; only one that begins with 'accepted' is given for a form that is.
 #[track_caller]
 fn assert_answer(form: impl AsRef<[u8]>, expected: &str) {
     let mut output = Vec::new();
@@ -17,6 +17,18 @@ fn assert_answer(form: impl AsRef<[u8]>, expected: &str) {
     let shown = form.as_ref()[..form.as_ref().len().min(80)].escape_ascii().to_string();
     assert_eq!(String::from_utf8(output).unwrap(), format!("{expected}\n"), "{shown}");
     assert_eq!(is_accepted, expected.starts_with("accepted"), "{shown}");
+}
+
+/// The answer is the repeat, and in a second line the lowest free number.
+#[track_caller]
+fn assert_sent_back(form: impl AsRef<[u8]>, repeat: &str, lowest_free: u32) {
+    assert_answer(form, &format!("{repeat}\nthe lowest free number is {lowest_free}"));
+}
+
+/// The answer is the repeat, and in a second line that there is no free number.
+#[track_caller]
+fn assert_none_free(form: impl AsRef<[u8]>, repeat: &str) {
+    assert_answer(form, &format!("{repeat}\nno number from 1 to 127 is free"));
 }
 
 /// Rows with serials from 1001 on, and the numbers 1 to 127 in turn.
@@ -65,8 +77,8 @@ fn only_decimal_digits_make_a_number() {
 #[test]
 fn leading_zeros_are_allowed_and_not_told() {
     assert_answer("007,001\n00000000000000000000000000000008,1\n", NODE_1_TWICE);
-    assert_answer("0004711,1\n4711,2\n", "line 2: serial 4711 stands already in line 1");
-    assert_answer("00,1\n0,2\n", "line 2: serial 0 stands already in line 1");
+    assert_sent_back("0004711,1\n4711,2\n", "line 2: serial 4711 stands already in line 1", 3);
+    assert_sent_back("00,1\n0,2\n", "line 2: serial 0 stands already in line 1", 3);
     assert_answer("1,00200\n", "refused 7: line 1: node number 200 is not 1 to 127");
     assert_answer("00004294967295,0127\n", ONE_ROW);
     assert_answer("00004294967296,1\n", ERROR_AT_1);
@@ -196,7 +208,11 @@ fn a_heading_is_passed_over() {
     for heading in
         ["serial,node", "Serial;Node number", "serial\tnode", "x", "a,b,c", ",", "\t", "-", "\"\"", "N\u{b0}"]
     {
-        assert_answer(format!("{heading}\n1,1\n2,1\n"), "line 3: node number 1 stands already in line 2");
+        assert_sent_back(
+            format!("{heading}\n1,1\n2,1\n"),
+            "line 3: node number 1 stands already in line 2",
+            2,
+        );
         assert_answer(format!("{heading}\r\n"), NO_ROWS);
     }
     for heading in [&b"\0"[..], b"\xFF", b"\r ", b"\r\r", b" \xEF\xBB\xBF", b"m\xC2\xB2", b"\t#"] {
@@ -281,27 +297,27 @@ fn rows_are_counted_in_the_answer() {
 #[test]
 fn all_lines_count_for_the_numbering() {
     let form = "\n# rows\nserial,node\n4711,12\n\n4712,13\r\n  # more\n   \n4713,12\n";
-    assert_answer(form, "line 9: node number 12 stands already in line 4");
+    assert_sent_back(form, "line 9: node number 12 stands already in line 4", 1);
     let form = "\n# rows\nserial,node\n4711,12\n\n4712,13\r\n  # more\n   \n4711,14\n";
-    assert_answer(form, "line 9: serial 4711 stands already in line 4");
+    assert_sent_back(form, "line 9: serial 4711 stands already in line 4", 1);
     assert_answer("\n#\nx\n\n1,1\n\n2,200\n", "refused 7: line 7: node number 200 is not 1 to 127");
     assert_answer("\n#\nx\n\n1,1\n\n2\n", "error at line 7: not a serial and a node number");
 }
 
 #[test]
 fn the_first_row_that_repeats_an_earlier_one_is_named() {
-    assert_answer("1,1\n2,2\n3,2\n4,1\n1,5\n", "line 3: node number 2 stands already in line 2");
-    assert_answer("1,1\n2,2\n1,3\n2,4\n5,1\n", "line 3: serial 1 stands already in line 1");
+    assert_sent_back("1,1\n2,2\n3,2\n4,1\n1,5\n", "line 3: node number 2 stands already in line 2", 3);
+    assert_sent_back("1,1\n2,2\n1,3\n2,4\n5,1\n", "line 3: serial 1 stands already in line 1", 5);
     // What is repeated later stands earlier.
-    assert_answer("1,1\n2,2\n3,3\n4,3\n5,1\n", "line 4: node number 3 stands already in line 3");
+    assert_sent_back("1,1\n2,2\n3,3\n4,3\n5,1\n", "line 4: node number 3 stands already in line 3", 4);
 }
 
 #[test]
 fn the_serial_goes_first_if_both_are_repeated() {
-    assert_answer("1,1\n2,2\n2,2\n", "line 3: serial 2 stands already in line 2");
+    assert_sent_back("1,1\n2,2\n2,2\n", "line 3: serial 2 stands already in line 2", 3);
     // Of two rows, in either order.
-    assert_answer("1,1\n2,2\n2,1\n", "line 3: serial 2 stands already in line 2");
-    assert_answer("1,1\n2,2\n1,2\n", "line 3: serial 1 stands already in line 1");
+    assert_sent_back("1,1\n2,2\n2,1\n", "line 3: serial 2 stands already in line 2", 3);
+    assert_sent_back("1,1\n2,2\n1,2\n", "line 3: serial 1 stands already in line 1", 3);
     // A serial that an even later row repeats does not go before this row's number.
     assert_answer("1,1\n2,1\n1,3\n", NODE_1_TWICE);
 }
@@ -343,9 +359,9 @@ fn refusal_8_is_for_more_than_127_rows() {
 #[test]
 fn all_of_127_rows_are_searched() {
     let form = rows(126) + "9,1\n";
-    assert_answer(form, "line 127: node number 1 stands already in line 1");
+    assert_sent_back(form, "line 127: node number 1 stands already in line 1", 127);
     let form = rows(126) + "1126,127\n";
-    assert_answer(form, "line 127: serial 1126 stands already in line 126");
+    assert_none_free(form, "line 127: serial 1126 stands already in line 126");
 }
 
 #[test]
@@ -367,4 +383,95 @@ fn a_malformed_line_goes_before_everything_else() {
 fn the_first_malformed_line_is_named() {
     assert_answer("1,1\nx\ny\n", ERROR_AT_2);
     assert_answer("1,1\n2,2,\n3\n", ERROR_AT_2);
+}
+
+// The lowest free number.
+
+#[test]
+fn the_lowest_free_number_is_1_if_no_row_has_it() {
+    assert_sent_back("1,2\n2,2\n", "line 2: node number 2 stands already in line 1", 1);
+    assert_sent_back("1,127\n1,126\n", "line 2: serial 1 stands already in line 1", 1);
+    assert_sent_back("9,3\n8,2\n7,3\n6,4\n", "line 3: node number 3 stands already in line 1", 1);
+    // A serial is no number, and what is passed over is no row.
+    assert_sent_back("# 5,1\n1,2\n1,3\n\n# 1\n", "line 3: serial 1 stands already in line 2", 1);
+}
+
+#[test]
+fn the_lowest_free_number_may_stand_between_others() {
+    assert_sent_back("1,1\n2,2\n3,4\n4,4\n", "line 4: node number 4 stands already in line 3", 3);
+    assert_sent_back("1,4\n2,1\n3,2\n4,4\n", "line 4: node number 4 stands already in line 1", 3);
+    assert_sent_back("1,127\n2,2\n1,1\n", "line 3: serial 1 stands already in line 1", 3);
+}
+
+#[test]
+fn the_lowest_of_several_free_numbers_is_told() {
+    assert_sent_back("1,1\n2,3\n3,5\n4,3\n", "line 4: node number 3 stands already in line 2", 2);
+    assert_sent_back("1,1\n2,2\n1,100\n3,50\n", "line 3: serial 1 stands already in line 1", 3);
+}
+
+#[test]
+fn rows_after_the_repeat_have_their_numbers_too() {
+    assert_sent_back("1,1\n2,1\n3,2\n4,3\n", "line 2: node number 1 stands already in line 1", 4);
+    assert_sent_back("1,3\n1,2\n2,5\n3,1\n", "line 2: serial 1 stands already in line 1", 4);
+    // Rows that repeat something too.
+    assert_sent_back("1,1\n2,1\n3,2\n4,2\n1,3\n", "line 2: node number 1 stands already in line 1", 4);
+}
+
+#[test]
+fn what_is_repeated_stays_used() {
+    assert_sent_back("1,1\n2,2\n3,1\n", "line 3: node number 1 stands already in line 1", 3);
+    assert_sent_back("1,1\n2,1\n3,1\n", "line 2: node number 1 stands already in line 1", 2);
+    // So do the numbers of both rows with a serial.
+    assert_sent_back("1,2\n1,1\n", "line 2: serial 1 stands already in line 1", 3);
+    assert_sent_back("1,1\n1,1\n", "line 2: serial 1 stands already in line 1", 2);
+}
+
+#[test]
+fn a_number_with_leading_zeros_is_used() {
+    assert_sent_back("1,001\n1,02\n", "line 2: serial 1 stands already in line 1", 3);
+}
+
+#[test]
+fn the_lowest_free_number_follows_those_used_from_1_on() {
+    assert_sent_back(rows(62) + "9,1\n", "line 63: node number 1 stands already in line 1", 63);
+    assert_sent_back(rows(63) + "9,1\n", "line 64: node number 1 stands already in line 1", 64);
+    assert_sent_back(rows(64) + "9,1\n", "line 65: node number 1 stands already in line 1", 65);
+    assert_sent_back(rows(65) + "9,1\n", "line 66: node number 1 stands already in line 1", 66);
+    assert_sent_back(rows(125) + "9,1\n", "line 126: node number 1 stands already in line 1", 126);
+    assert_sent_back(rows(126) + "9,1\n", "line 127: node number 1 stands already in line 1", 127);
+    // The repeat comes first, so that most of the numbers stand after it.
+    for used in 1..=126 {
+        let form = format!("9,1\n{}", rows(used));
+        assert_sent_back(form, "line 2: node number 1 stands already in line 1", used + 1);
+    }
+}
+
+#[test]
+fn the_only_free_number_is_found_wherever_it_is() {
+    for free in 2..=127 {
+        let form = rows(127).replace(&format!(",{free}\n"), ",1\n");
+        assert_sent_back(form, &format!("line {free}: node number 1 stands already in line 1"), free);
+    }
+    let form = rows(127).replace(",1\n", ",127\n");
+    assert_sent_back(form, "line 127: node number 127 stands already in line 1", 1);
+}
+
+#[test]
+fn with_all_numbers_and_a_repeated_serial_none_is_free() {
+    assert_none_free(rows(127).replace("1127,", "1001,"), "line 127: serial 1001 stands already in line 1");
+    assert_none_free(rows(127).replace("1002,", "1001,"), "line 2: serial 1001 stands already in line 1");
+    let upwards: String = (1..=127).map(|node| format!("5,{node}\n")).collect();
+    assert_none_free(upwards, "line 2: serial 5 stands already in line 1");
+    let downwards: String = (1..=127).rev().map(|node| format!("5,{node}\n")).collect();
+    assert_none_free(downwards, "line 2: serial 5 stands already in line 1");
+}
+
+#[test]
+fn only_a_form_that_is_sent_back_is_told_of_a_free_number() {
+    assert_answer("1,2\n2,3\n", TWO_ROWS);
+    assert_answer(rows(127), "accepted: 127 rows, all serials and all numbers differ");
+    // A repeat draws no second line where something else goes before it.
+    assert_answer("1,2\n1,2\n3,128\n", "refused 7: line 3: node number 128 is not 1 to 127");
+    assert_answer("1,2\n".repeat(128), "refused 8: more than 127 rows");
+    assert_answer("1,2\n1,2\n3,\n", "error at line 3: not a serial and a node number");
 }

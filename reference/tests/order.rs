@@ -26,11 +26,13 @@ fn an_accepted_form_ends_well_and_quietly() {
 }
 
 #[test]
-fn any_other_is_told_in_one_line_and_fails() {
+fn any_other_is_told_in_one_line_on_standard_error_too_and_fails() {
     let too_many = "1,1\n".repeat(128);
+    let all_numbers: String = (1..=127).map(|node| format!("1,{node}\n")).collect();
     let forms = [
-        ("1,1\n1,2\n", "line 2: serial 1 stands already in line 1\n"),
-        ("1,1\n2,1\n", "line 2: node number 1 stands already in line 1\n"),
+        ("1,1\n1,2\n", "line 2: serial 1 stands already in line 1\nthe lowest free number is 3\n"),
+        ("1,1\n2,1\n", "line 2: node number 1 stands already in line 1\nthe lowest free number is 2\n"),
+        (&all_numbers, "line 2: serial 1 stands already in line 1\nno number from 1 to 127 is free\n"),
         ("1,0\n", "refused 7: line 1: node number 0 is not 1 to 127\n"),
         (&too_many, "refused 8: more than 127 rows\n"),
         ("1\n", "error at line 1: not a serial and a node number\n"),

@@ -21,6 +21,7 @@ pub mod Whole
 pub mod Back
 pub mod Proved
 pub mod Ordered
+pub mod Proposed
 pub mod Lived
 pub mod Echo
 pub mod Wrongs

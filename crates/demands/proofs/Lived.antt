@@ -1,21 +1,27 @@
 -- A line grown by two forms, one that is sent back and one that is accepted, and calls that give no head its number: whether they do is tried, one
--- by one and head by head.
+-- by one and head by head. Then the form that was sent back, mended.
 -- Assumes nothing.
-use Prim.Native.Nat.{ℕ, _≤_}
+use Prim.Native.Nat.{ℕ, zero, suc, _≤_}
 use mathlib.Core.Path.{_≡_, refl}
 use mathlib.Core.Bool.{Bool, true, false, _&&_}
 use mathlib.Core.Option.{Option, none, some}
 use native.Mathlib.Omega.{arith}
 use lib.Dec.{T}
-use Rattle.rows.proofs.Span.{both, span, in-span}
+use Rattle.rows.proofs.Span.{both, in-span}
+use Rattle.rows.proofs.Span as spans
 use Rattle.order_form.specs.declared.answer.Answer.the-variants.{AllDiffer}
 use Rattle.order_form.specs.Rows.{firstOf}
 use Rattle.order_form.specs.Check.{repeatFrom, answerOf}
+use Rattle.free_number.specs.Lowest.{span, firstFree, lowestOf}
+use Rattle.free_number.specs.Used.{bit, whole, ofWhole, used, flipped, addOf}
+use Rattle.free_number.specs.Demand.{after}
+use Rattle.free_number.specs.Demand as keeper
 use Rattle.demands.specs.Calls.{Calls, start, _▸_}
 use Rattle.demands.specs.Past.{asked, count}
 use Rattle.demands.specs.Run.{product}
 use Rattle.demands.specs.Demand3.{touch}
 use Rattle.demands.specs.Ordered.{grownBy, _then_, Unnumbered, FormsAreSafe, accident, asking, Accident, apart, lived, Lived}
+use Rattle.demands.specs.Proposed.{further, IsNew, mended, Mended}
 use Rattle.demands.proofs.Computing.{computing}
 use Rattle.demands.proofs.Ordered.{safe}
 
@@ -32,7 +38,7 @@ leaves-none (some v) t = absurd t
 -- after the calls cs, none of the calls ds gives a head that is there then its number
 tried : Calls → Calls → Bool
 tried cs start = true
-tried cs (ds ▸ d) = tried cs ds && span (λ k. leaves (touch (cs then ds) d k 0)) 0 (count ((cs then ds) ▸ d))
+tried cs (ds ▸ d) = tried cs ds && spans.span (λ k. leaves (touch (cs then ds) d k 0)) 0 (count ((cs then ds) ▸ d))
 
 tried-all : (cs ds : Calls) → T (tried cs ds) → Unnumbered cs ds
 unfolding tried
@@ -62,4 +68,28 @@ lived-through =
       worth = safe apart refl (omega arith);
       unnumbered = tried-all (grownBy apart) lived tt;
       replies = refl;
+    }
+
+-- 4711 and 4712 are not 4713
+new : IsNew 4713 mended
+new zero h e = absurd (omega (arith, e))
+new (suc zero) h e = absurd (omega (arith, e))
+new (suc (suc i)) h e = absurd (omega arith)
+
+pub made-good : Mended product keeper.product answerOf
+unfolding computing answerOf repeatFrom firstOf lowestOf firstFree span used whole bit after addOf ofWhole flipped
+made-good =
+    record {
+      sent-back = refl;
+      proposes = refl;
+      let-pass = refl;
+      replies = refl;
+      goes-on = refl;
+      is-new = new;
+      three = refl;
+      let-pass-too = refl;
+      grows = safe (further mended 4713 2) refl (omega arith);
+      later = refl;
+      not-again = λ c i j l h. omega (arith, l, h);
+      not-refused = λ why h. h;
     }

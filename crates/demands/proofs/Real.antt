@@ -5,8 +5,9 @@ use Rattle.head.specs.Calls.{madeOf, factoryOf}
 use Rattle.head.specs.Outcome.{called}
 use Rattle.order_form.specs.Check.{answerOf}
 use Rattle.order_form.proofs.Held.{added}
+use Rattle.free_number.specs.Demand as keeper
 use Rattle.demands.specs.Run.{product, askOf}
-use Rattle.demands.specs.Real.{Real, RealForm}
+use Rattle.demands.specs.Real.{Real, RealForm, RealMap}
 use Rattle.demands.proofs.Computing.{computing}
 
 factory-made : factoryOf ≡ madeOf 31 .head
@@ -49,4 +50,23 @@ real-form =
       check-held = λ κs a y u p. p;
       held = added;
       form-number = λ κs a y u p. p;
+    }
+
+pub real-map : RealMap keeper.product
+real-map =
+    record {
+      words = refl;
+      in-order = λ m. refl;
+      empty-asks = λ κs a. tt;
+      add-asks = λ κs a. tt;
+      remove-asks = λ κs a. tt;
+      lowest-asks = λ κs a. tt;
+      count-asks = λ κs a. tt;
+      empty = λ κs a y u p. p;
+      add = λ κs a y u p. p;
+      remove = λ κs a y u p. p;
+      lowest = λ κs a y u p. p;
+      count = λ κs a y u p. p;
+      number-asks = λ κs a. tt;
+      map-number = λ κs a y u p. p;
     }

@@ -10,6 +10,7 @@ pub mod Demand1
 pub mod Demand2
 pub mod Demand3
 pub mod Ordered
+pub mod Proposed
 pub mod Wrong
 pub mod Cases
 pub mod Sentences

@@ -39,6 +39,8 @@ use Rattle.reply.proofs as reply
 use Rattle.line.proofs.calls as line-calls
 use Rattle.order_form.proofs.answer as order_form-answer
 use Rattle.order_form.proofs.form as order_form-form
+use Rattle.free_number.proofs.answer as free_number-answer
+use Rattle.free_number.proofs.map as free_number-map
 use Rattle.text.proofs.lines as text-lines
 use Rattle.text.proofs.numbers as text-numbers
 use Rattle.script.proofs as script
@@ -161,6 +163,12 @@ pub record Outcomes : Type 0 where
   pub order-form-form-blank : One order_form-form.blank.Kinds.ps order_form-form.blank.Kinds.r order_form-form.blank.Reads.Post
   pub order-form-form-add : One order_form-form.add.Kinds.ps order_form-form.add.Kinds.r order_form-form.add.Reads.Post
   pub order-form-form-check : One order_form-form.check.Kinds.ps order_form-form.check.Kinds.r order_form-form.check.Reads.Post
+  pub free-number-answer-number : One free_number-answer.Refusal.number.Kinds.ps free_number-answer.Refusal.number.Kinds.r free_number-answer.Refusal.number.Reads.Post
+  pub free-number-map-empty : One free_number-map.empty.Kinds.ps free_number-map.empty.Kinds.r free_number-map.empty.Reads.Post
+  pub free-number-map-add : One free_number-map.add.Kinds.ps free_number-map.add.Kinds.r free_number-map.add.Reads.Post
+  pub free-number-map-remove : One free_number-map.remove.Kinds.ps free_number-map.remove.Kinds.r free_number-map.remove.Reads.Post
+  pub free-number-map-lowest-free : One free_number-map.lowest_free.Kinds.ps free_number-map.lowest_free.Kinds.r free_number-map.lowest_free.Reads.Post
+  pub free-number-map-count : One free_number-map.count.Kinds.ps free_number-map.count.Kinds.r free_number-map.count.Reads.Post
   pub text-lines-bare-length : One text-lines.bare_length.Kinds.ps text-lines.bare_length.Kinds.r text-lines.bare_length.Reads.Post
   pub text-lines-take-in : One text-lines.take_in.Kinds.ps text-lines.take_in.Kinds.r text-lines.take_in.Reads.Post
   pub text-numbers-decimal : One text-numbers.decimal.Kinds.ps text-numbers.decimal.Kinds.r text-numbers.decimal.Reads.Post

@@ -14,10 +14,10 @@ use ghost.Atoms.{Atoms}
 use contract.Lifetimes.{Lfts}
 use contract.Monad.{Fun, fact}
 use denote.Ref.{now}
-use denote.Struct.Field.{u32-field}
+use denote.Struct.Field.{u32-field, u64-field}
 use denote.Triple.Entry.{Args}
 use denote.Triple.Clauses.{Lasts, AtExit, atExit}
-use borrow.Fn.Kinds.{PK, RK, Dens, resT, endedOf, Out}
+use borrow.Fn.Kinds.{PK, RK, Dens, resT, endedOf, In, Out}
 use Rattle.head.specs.Refusals.{refusalOf}
 use Rattle.head.specs.Outcome as alone
 use Rattle.line.specs.Calls.{emptyOf}
@@ -32,6 +32,11 @@ use Rattle.order_form.proofs as order_form
 use Rattle.order_form.proofs.form as order_form-form
 use Rattle.order_form.proofs.row as form-row
 use Rattle.order_form.proofs.answer as order_form-answer
+use Rattle.free_number.specs.declared.map.Map.{Map}
+use Rattle.free_number.specs.Used as free
+use Rattle.free_number.specs.Demand.{Keeper}
+use Rattle.free_number.proofs.map as free_number-map
+use Rattle.free_number.proofs.answer as free_number-answer
 use Rattle.demands.specs.Calls as calls
 use Rattle.demands.specs.Run.{System}
 
@@ -92,3 +97,27 @@ pub record RealForm (check : List Row → Answer) : Type 2 where
   pub held : (rows : List Row) → checkOf (addAll blankOf rows) ≡ check rows
   -- the number of a refusal, by which the demands tell 7 from 8
   pub form-number : Gives order_form-answer.Refusal.number.Kinds.ps order_form-answer.Refusal.number.Kinds.r order_form-answer.Refusal.number.Reads.Post (λ κs a. form.refusalOf (a .0))
+
+-- the contract asks nothing of the arguments: the call is for all of them
+abbrev pub AsksNothing : {n : ℕ} (ps : List (PK n)) → In n ps → Type 0
+AsksNothing {n} ps asked = (κs : Lfts n) (a : Dens κs ps) → asked κs a
+
+-- The map of used numbers that a program calls is the one that the demands on it are proved of (the crate free_number, Demand).
+pub record RealMap (k : Keeper) : Type 2 where
+  -- a map is two words of 64 bits, the lower and then the upper
+  pub words : free_number-map.Map.struct .parts ≡ u64-field ∷ u64-field ∷ []
+  pub in-order : (m : Map) → free_number-map.Map.struct .as-values m ≡ (m .low, (m .high, tt))
+  -- any two words are a map, and any number may be named
+  pub empty-asks : AsksNothing free_number-map.empty.Kinds.ps free_number-map.empty.Reads.Asked
+  pub add-asks : AsksNothing free_number-map.add.Kinds.ps free_number-map.add.Reads.Asked
+  pub remove-asks : AsksNothing free_number-map.remove.Kinds.ps free_number-map.remove.Reads.Asked
+  pub lowest-asks : AsksNothing free_number-map.lowest_free.Kinds.ps free_number-map.lowest_free.Reads.Asked
+  pub count-asks : AsksNothing free_number-map.count.Kinds.ps free_number-map.count.Reads.Asked
+  pub empty : Gives free_number-map.empty.Kinds.ps free_number-map.empty.Kinds.r free_number-map.empty.Reads.Post (λ κs a. k .empty)
+  pub add : Gives free_number-map.add.Kinds.ps free_number-map.add.Kinds.r free_number-map.add.Reads.Post (λ κs a. k .add (a .0) (a .1 .0))
+  pub remove : Gives free_number-map.remove.Kinds.ps free_number-map.remove.Kinds.r free_number-map.remove.Reads.Post (λ κs a. k .remove (a .0) (a .1 .0))
+  pub lowest : Gives free_number-map.lowest_free.Kinds.ps free_number-map.lowest_free.Kinds.r free_number-map.lowest_free.Reads.Post (λ κs a. k .lowest (a .0))
+  pub count : Gives free_number-map.count.Kinds.ps free_number-map.count.Kinds.r free_number-map.count.Reads.Post (λ κs a. k .count (a .0))
+  -- the number of a refusal, by which the demands tell 7 from 9
+  pub number-asks : AsksNothing free_number-answer.Refusal.number.Kinds.ps free_number-answer.Refusal.number.Reads.Asked
+  pub map-number : Gives free_number-answer.Refusal.number.Kinds.ps free_number-answer.Refusal.number.Kinds.r free_number-answer.Refusal.number.Reads.Post (λ κs a. free.refusalOf (a .0))

@@ -2,7 +2,7 @@
 -- answer names are kept, and what is kept of a line means what the line means.
 -- Assumes nothing.
 use Prim.Native.Nat.{ℕ, suc, _+_, _<_, _≤_, _^_}
-use mathlib.Core.Path.{_≡_, refl, sym, _∙_, ap}
+use mathlib.Core.Path.{_≡_, refl, sym, _∙_, ap, ap₂}
 use mathlib.Core.Bool.{Bool, true, false, _&&_}
 use mathlib.Core.List.{List, [], _∷_, _++_, map, flatten, append-nil}
 use mathlib.Core.Option.{Option, none, some}
@@ -24,25 +24,29 @@ use Rattle.order_form.specs.Held.{noRow, checkOf}
 use Rattle.order_form.proofs.Kept.{kept-at, length-snoc}
 use Rattle.order_form.proofs.Held.{Holds, holds, added}
 use Rattle.order_form.proofs.Demands.{Inside, inside}
+use Rattle.free_number.specs.declared.map.Free.{Free}
+use Rattle.free_number.specs.Lowest.{lowestOf}
+use Rattle.free_number.specs.Used.{used}
+use Rattle.free_number.proofs.Demands.{lowest-added}
 use Rattle.order.specs.declared.desk.Desk.{Desk}
 use Rattle.order.specs.declared.desk.Notice.the-variants as notice
-use Rattle.order.specs.Written.{isBlank, Line, linesFrom, malformedIn, rowsIn, lineOf, rowOf, toldBy, toldOf, malformedOr, writtenOf}
+use Rattle.order.specs.Written.{isBlank, Line, linesFrom, malformedIn, rowsIn, lineOf, rowOf, nodeOf, freeIn, toldBy, toldOf, malformedOr, writtenOf}
 use Rattle.order.specs.Desk.{deskOf, enteredOf, notedOf, saidOf}
 use Rattle.order.specs.Reading.{room}
 use Rattle.order.proofs.Stands.{numberOf, Counted, Stands, none-stands, one-line}
 
 -- ---- what is told of the rows that an answer names, where these are the same
-told-same : (line line′ : ℕ → ℕ) (row row′ : ℕ → Row) (n n′ : ℕ) (rows : List Row) (a : Answer) → Inside rows a
+told-same : (line line′ : ℕ → ℕ) (row row′ : ℕ → Row) (n n′ : ℕ) (free : Free) (rows : List Row) (a : Answer) → Inside rows a
     → (length rows ≤ 127 → n ≡ n′) → ((i : ℕ) → i < length rows → i < 127 → (line i ≡ line′ i) × (row i ≡ row′ i))
-    → toldBy line row n a ≡ toldBy line′ row′ n′ a
-told-same line line′ row row′ n n′ rows AllDiffer h count at = ap notice.Accepted (count h)
-told-same line line′ row row′ n n′ rows (Repeats c k j) h count at =
+    → toldBy line row n free a ≡ toldBy line′ row′ n′ free a
+told-same line line′ row row′ n n′ free rows AllDiffer h count at = ap notice.Accepted (count h)
+told-same line line′ row row′ n n′ free rows (Repeats c k j) h count at =
     let p = at k (h .1) (omega (arith, h .0, h .1)) in
     rw (p .0, p .1, at j (h .2) (omega (arith, h .0, h .2)) .0)
-told-same line line′ row row′ n n′ rows (Refused (Outside k)) h count at =
+told-same line line′ row row′ n n′ free rows (Refused (Outside k)) h count at =
     let p = at k (h .1) (omega (arith, h .0, h .1)) in
     rw (p .0, p .1)
-told-same line line′ row row′ n n′ rows (Refused TooMany) h count at = refl
+told-same line line′ row row′ n n′ free rows (Refused TooMany) h count at = refl
 
 -- ---- what the desk tells after its lines
 module _ (d : Desk) (before : List Line) (first : Bool) (k : Stands d before first) where
@@ -55,10 +59,14 @@ module _ (d : Desk) (before : List Line) (first : Bool) (k : Stands d before fir
   long : length (map lineOf (rowsIn before)) ≡ length rows
   long = length-map (rowsIn before) lineOf ∙ sym (length-map (rowsIn before) rowOf)
 
-  told-rows : toldBy (λ i. getD (d .places) i 0) (λ i. getD (d .form .rows) i noRow) (d .form .count) (checkOf (d .form)) ≡ toldOf (rowsIn before)
+  free-rows : lowestOf (used (d .numbers)) ≡ freeIn (rowsIn before)
+  free-rows = rw (k .numbers) (lowest-added (map nodeOf (rowsIn before)))
+
+  told-rows : toldBy (λ i. getD (d .places) i 0) (λ i. getD (d .form .rows) i noRow) (d .form .count) (lowestOf (used (d .numbers))) (checkOf (d .form))
+      ≡ toldOf (rowsIn before)
   told-rows =
-      ap (toldBy (λ i. getD (d .places) i 0) (λ i. getD (d .form .rows) i noRow) (d .form .count)) (ap checkOf (k .form) ∙ added rows)
-      ∙ told-same _ _ _ _ _ _ rows (answerOf rows) (inside rows)
+      ap₂ (toldBy (λ i. getD (d .places) i 0) (λ i. getD (d .form .rows) i noRow) (d .form .count)) free-rows (ap checkOf (k .form) ∙ added rows)
+      ∙ told-same _ _ _ _ _ _ (freeIn (rowsIn before)) rows (answerOf rows) (inside rows)
       (λ few. omega (arith, held .count, few, length-map (rowsIn before) rowOf))
       (λ i h l. (kept-at most _ _ (k .places) i 0 (omega (arith, long, h)) l, kept-at most _ _ (held .are) i noRow h l))
 

@@ -1,3 +1,4 @@
 pub mod Stands
 pub mod Forms
+pub mod Demands
 pub mod Examples

@@ -17,8 +17,11 @@ use Rattle.order_form.specs.Check.{most}
 use Rattle.order_form.specs.Held.{blankOf, addAll}
 use Rattle.order_form.proofs.Kept.{Kept, none-kept, one-more, length-snoc}
 use Rattle.order_form.proofs.Held.{Holds, holds, room-test, add-snoc}
+use Rattle.free_number.specs.Rows.{start, adding}
+use Rattle.free_number.specs.Demand.{product, after}
+use Rattle.free_number.proofs.Rows.{adding-snoc}
 use Rattle.order.specs.declared.desk.Desk.{Desk}
-use Rattle.order.specs.Written.{isBlank, isMalformed, Line, malformedIn, Placed, rowAt, rowsIn, lineOf, rowOf}
+use Rattle.order.specs.Written.{isBlank, isMalformed, Line, malformedIn, Placed, rowAt, rowsIn, lineOf, rowOf, nodeOf}
 use Rattle.order.specs.Desk.{deskOf, putOf, nextOf, enteredOf}
 
 -- no line is numbered 0
@@ -36,12 +39,13 @@ pub record Stands (d : Desk) (before : List Line) (first : Bool) : Type 0 where
   pub is-first : d .first ≡ first
   pub form : d .form ≡ addAll blankOf (map rowOf (rowsIn before))
   pub places : Kept most (map lineOf (rowsIn before)) (d .places)
+  pub numbers : d .numbers ≡ after product (adding start (map nodeOf (rowsIn before)))
   pub malformed : d .malformed ≡ numberOf (malformedIn before)
   pub counted : Counted (malformedIn before)
 
 pub none-stands : Stands deskOf [] true
-unfolding deskOf
-none-stands = record { lines = refl; is-first = refl; form = refl; places = none-kept (deskOf .places); malformed = refl; counted = tt }
+unfolding deskOf after
+none-stands = record { lines = refl; is-first = refl; form = refl; places = none-kept (deskOf .places); numbers = refl; malformed = refl; counted = tt }
 
 -- ---- lists of lines, with one more
 rows-snoc : (before : List Line) (l : Line) → rowsIn (before ++ (l ∷ [])) ≡ rowsIn before ++ rowAt (l .number) (l .entry)
@@ -103,24 +107,27 @@ module _ (d : Desk) (before : List Line) (first : Bool) (k : Stands d before fir
   same-malformed e fine = malformed-snoc before (record { number = number; entry = e }) ∙ rw (fine, either-none)
 
   passed : (e : Entry) (b : Bool) → rowAt number e ≡ [] → isMalformed e ≡ false
-      → Stands (record { form = d .form; places = d .places; lines = nextOf d; first = b; malformed = d .malformed }) (now e) b
+      → Stands (record { form = d .form; places = d .places; numbers = d .numbers; lines = nextOf d; first = b; malformed = d .malformed }) (now e) b
   passed e b no-row fine =
       record {
         lines = line-count e;
         is-first = refl;
         form = rw (same-rows e no-row) (k .form);
         places = rw (same-rows e no-row) (k .places);
+        numbers = rw (same-rows e no-row) (k .numbers);
         malformed = rw (same-malformed e fine) (k .malformed);
         counted = rw (same-malformed e fine) (k .counted);
       }
 
   with-row : (serial node : ℕ) → Stands (enteredOf d (entry.Row serial node)) (now (entry.Row serial node)) false
+  unfolding after
   with-row serial node =
       record {
         lines = line-count (entry.Row serial node);
         is-first = refl;
         form = rw (k .form, rows, map-append) (sym (add-snoc blankOf (map rowOf (rowsIn before)) row));
         places = rw (next-line, rows, map-append) (put-kept (map lineOf (rowsIn before)) (d .places) (d .form .count) number test same (k .places));
+        numbers = rw (k .numbers, rows, map-append, adding-snoc);
         malformed = rw (same-malformed (entry.Row serial node) refl) (k .malformed);
         counted = rw (same-malformed (entry.Row serial node) refl) (k .counted);
       }
@@ -150,6 +157,7 @@ module _ (d : Desk) (before : List Line) (first : Bool) (k : Stands d before fir
         is-first = refl;
         form = rw (same-rows entry.Malformed refl) (k .form);
         places = rw (same-rows entry.Malformed refl) (k .places);
+        numbers = rw (same-rows entry.Malformed refl) (k .numbers);
         malformed = rw (last, k .malformed, next-line) (first-kept (malformedIn before) (k .counted));
         counted = rw last (counted-kept (malformedIn before) (k .counted));
       }

@@ -1,3 +1,4 @@
 pub mod Written
+pub mod Demand
 pub mod Desk
 pub mod Reading

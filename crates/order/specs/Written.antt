@@ -6,6 +6,7 @@ use mathlib.Core.List.{List, [], _∷_, _++_, map}
 use mathlib.Core.Option.{Option, none, some}
 use lib.Dec.{eqb}
 use lib.ListN.{length, getD}
+use Rattle.rows.specs.Among.{among}
 use Rattle.form_text.specs.declared.rows.Entry.{Entry}
 use Rattle.form_text.specs.declared.rows.Entry.the-variants as entry
 use Rattle.form_text.specs.Form.{entryOf}
@@ -18,6 +19,8 @@ use Rattle.order_form.specs.declared.answer.Refusal.{Refusal}
 use Rattle.order_form.specs.declared.answer.Refusal.the-variants.{Outside, TooMany}
 use Rattle.order_form.specs.Check.{answerOf}
 use Rattle.order_form.specs.Held.{noRow}
+use Rattle.free_number.specs.declared.map.Free.{Free}
+use Rattle.free_number.specs.Lowest.{lowestOf}
 use Rattle.order.specs.declared.desk.Notice.{Notice}
 use Rattle.order.specs.declared.desk.Notice.the-variants as notice
 
@@ -69,20 +72,20 @@ rowsIn [] = []
 rowsIn (l ∷ ls) = rowAt (l .number) (l .entry) ++ rowsIn ls
 
 -- ---- what is told
--- of a row that repeats an earlier one in the column: its line, the row, and the earlier line
-abbrev pub repeatedBy : Column → ℕ → Row → ℕ → Notice
-repeatedBy Serial line row earlier = notice.SameSerial line (row .serial) earlier
-repeatedBy Number line row earlier = notice.SameNumber line (row .node) earlier
+-- of a row that repeats an earlier one in the column: its line, the row, the earlier line, and the number that is free
+abbrev pub repeatedBy : Column → ℕ → Row → ℕ → Free → Notice
+repeatedBy Serial line row earlier free = notice.SameSerial line (row .serial) earlier free
+repeatedBy Number line row earlier free = notice.SameNumber line (row .node) earlier free
 
--- of rows, by the answer to them: the line of each row, the row, and how many there are
+-- of rows, by the answer to them: the line of each row, the row, how many there are, and the number that is free
 abbrev pub refusedBy : (ℕ → ℕ) → (ℕ → Row) → Refusal → Notice
 refusedBy line row (Outside i) = notice.Outside (line i) (row i .node)
 refusedBy line row TooMany = notice.TooMany
 
-abbrev pub toldBy : (ℕ → ℕ) → (ℕ → Row) → ℕ → Answer → Notice
-toldBy line row n AllDiffer = notice.Accepted n
-toldBy line row n (Repeats c i j) = repeatedBy c (line i) (row i) (line j)
-toldBy line row n (Refused why) = refusedBy line row why
+abbrev pub toldBy : (ℕ → ℕ) → (ℕ → Row) → ℕ → Free → Answer → Notice
+toldBy line row n free AllDiffer = notice.Accepted n
+toldBy line row n free (Repeats c i j) = repeatedBy c (line i) (row i) (line j) free
+toldBy line row n free (Refused why) = refusedBy line row why
 
 abbrev pub lineOf : Placed → ℕ
 lineOf p = p .line
@@ -90,9 +93,16 @@ lineOf p = p .line
 abbrev pub rowOf : Placed → Row
 rowOf p = p .row
 
+abbrev pub nodeOf : Placed → ℕ
+nodeOf p = p .row .node
+
+-- the lowest number that no row of the form has, be it before or after the row that repeats one
+abbrev pub freeIn : List Placed → Free
+freeIn rows = lowestOf (among (map nodeOf rows))
+
 abbrev pub toldOf : List Placed → Notice
 toldOf rows =
-    toldBy (λ i. getD (map lineOf rows) i 0) (λ i. getD (map rowOf rows) i noRow) (length rows) (answerOf (map rowOf rows))
+    toldBy (λ i. getD (map lineOf rows) i 0) (λ i. getD (map rowOf rows) i noRow) (length rows) (freeIn rows) (answerOf (map rowOf rows))
 
 -- a malformed line goes before all else
 abbrev pub malformedOr : Option ℕ → Notice → Notice

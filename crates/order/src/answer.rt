@@ -1,5 +1,6 @@
 // What the clerk is told, in words.
 use crate::desk::Notice;
+use free_number::map::Free;
 use libc::STDERR_FILENO;
 use libc::STDOUT_FILENO;
 use order_form::answer::Refusal;
@@ -28,13 +29,26 @@ fn line(n: u64) -> bool {
     number(n) & label
 }
 
-fn repeated(at: u64, what: &[u8], value: u32, earlier: u64) -> bool {
+// The number that the clerk may give instead.
+fn proposed(free: Free) -> bool {
+    match free {
+        Free::Number(node) => {
+            let label = write(b"the lowest free number is ");
+            let value = number(node as u64) & label;
+            write(b"\n") & value
+        }
+        Free::None => write(b"no number from 1 to 127 is free\n"),
+    }
+}
+
+fn repeated(at: u64, what: &[u8], value: u32, earlier: u64, free: Free) -> bool {
     let place = line(at);
     let name = write(what) & place;
     let said = number(value as u64) & name;
     let stands = write(b" stands already in ") & said;
     let other = line(earlier) & stands;
-    write(b"\n") & other
+    let end = write(b"\n") & other;
+    proposed(free) & end
 }
 
 // The document's number of a refusal.
@@ -63,7 +77,7 @@ fn malformed(at: u64) -> bool {
     write(b": not a serial and a node number\n") & place
 }
 
-// The line on standard output; whether it could be written.
+// The answer on standard output; whether it could be written.
 fn told(notice: Notice) -> bool {
     match notice {
         Notice::Accepted(rows) => accepted(rows),
@@ -71,12 +85,14 @@ fn told(notice: Notice) -> bool {
             line,
             serial,
             earlier,
-        } => repeated(line, b": serial ", serial, earlier),
+            free,
+        } => repeated(line, b": serial ", serial, earlier, free),
         Notice::SameNumber {
             line,
             node,
             earlier,
-        } => repeated(line, b": node number ", node, earlier),
+            free,
+        } => repeated(line, b": node number ", node, earlier, free),
         Notice::Outside { line, node } => outside(line, node),
         Notice::TooMany => too_many(),
         Notice::Malformed(line) => malformed(line),

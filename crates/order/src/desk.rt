@@ -1,5 +1,8 @@
 // What is known of a form after some of its lines, and what the clerk is told after all.
 use form_text::rows::Entry;
+use free_number::map;
+use free_number::map::Free;
+use free_number::map::Map;
 use order_form::answer::Answer;
 use order_form::answer::Refusal;
 use order_form::form;
@@ -15,28 +18,31 @@ ghost use Rattle.order.specs.Desk.{deskOf, putOf, withRowOf, enteredOf, 
 // How many rows have a place.
 const ROOM: usize = 127;
 
-// The rows, the line that each stands in, how many lines there were, whether all of them were blank or comments, and the first that is malformed,
-// 0 where none is.
+// The rows, the line that each stands in, the numbers that they have, how many lines there were, whether all of them were blank or comments, and the
+// first that is malformed, 0 where none is.
 pub(crate) struct Desk {
     pub form: Form,
     pub places: [u64; 127],
+    pub numbers: Map,
     pub lines: u64,
     pub first: bool,
     pub malformed: u64,
 }
 
-// What the clerk is told. Lines are counted from 1.
+// What the clerk is told. Lines are counted from 1. A form that is sent back comes with the lowest number that none of its rows has.
 pub(crate) enum Notice {
     Accepted(usize),
     SameSerial {
         line: u64,
         serial: u32,
         earlier: u64,
+        free: Free,
     },
     SameNumber {
         line: u64,
         node: u32,
         earlier: u64,
+        free: Free,
     },
     Outside {
         line: u64,
@@ -53,6 +59,7 @@ pub(crate) fn bare() -> Desk
     Desk {
         form: form::blank(),
         places: [0; ROOM],
+        numbers: map::empty(),
         lines: 0,
         first: true,
         malformed: 0,
@@ -70,7 +77,7 @@ fn put(places: [u64; 127], rows: usize, line: u64) -> [u64; 127]
     p
 }
 
-// One row more, and its line.
+// One row more, and its line. A number that a row has already, or that no head can have, leaves the map as it is.
 fn with_row(desk: Desk, row: Row, line: u64) -> Desk
     ensures { λ r. ⌜ r ≡ withRowOf desk row line ⌝ }
 {
@@ -81,6 +88,9 @@ fn with_row(desk: Desk, row: Row, line: u64) -> Desk
     d.places = places;
     let more = form::add(form, row);
     d.form = more;
+    let change = map::add(d.numbers, row.node);
+    let numbers = change.map;
+    d.numbers = numbers;
     d
 }
 
@@ -148,8 +158,9 @@ fn repeated(
     column: Column,
     row: usize,
     earlier: usize,
+    free: Free,
 ) -> Notice
-    ensures { λ r. ⌜ r ≡ repeatedBy column (getD places row 0) (getD rows row noRow) (getD places earlier 0) ⌝ }
+    ensures { λ r. ⌜ r ≡ repeatedBy column (getD places row 0) (getD rows row noRow) (getD places earlier 0) free ⌝ }
 {
     let r = row_of(rows, row);
     let line = line_of(places, row);
@@ -159,11 +170,13 @@ fn repeated(
             line: line,
             serial: r.serial,
             earlier: before,
+            free: free,
         },
         Column::Number => Notice::SameNumber {
             line: line,
             node: r.node,
             earlier: before,
+            free: free,
         },
     }
 }
@@ -185,12 +198,12 @@ fn refused(rows: [Row; 127], places: [u64; 127], why: Refusal) -> Notice
 }
 
 // What is told of so many rows, by the answer to them.
-fn told(rows: [Row; 127], places: [u64; 127], count: usize, answer: Answer) -> Notice
-    ensures { λ r. ⌜ r ≡ toldBy (λ i. getD places i 0) (λ i. getD rows i noRow) count answer ⌝ }
+fn told(rows: [Row; 127], places: [u64; 127], count: usize, free: Free, answer: Answer) -> Notice
+    ensures { λ r. ⌜ r ≡ toldBy (λ i. getD places i 0) (λ i. getD rows i noRow) count free answer ⌝ }
 {
     match answer {
         Answer::AllDiffer => Notice::Accepted(count),
-        Answer::Repeats(column, row, earlier) => repeated(rows, places, column, row, earlier),
+        Answer::Repeats(column, row, earlier) => repeated(rows, places, column, row, earlier, free),
         Answer::Refused(why) => refused(rows, places, why),
     }
 }
@@ -207,5 +220,11 @@ pub(crate) fn said(d: Desk) -> Notice
     let answer = form::check(form);
     let rows = form.rows;
     let places = d.places;
-    told(rows, places, form.count, answer)
+    told(
+        rows,
+        places,
+        form.count,
+        map::lowest_free(d.numbers),
+        answer,
+    )
 }

@@ -18,15 +18,18 @@ fn form() -> bool {
 
 fn answers() -> bool {
     let good = write(
-        b"The answer is one line:\n\n  accepted: 12 rows, all serials and all numbers differ\n  line 9: serial 4711 stands already in line 4\n  line 9: node number 12 stands already in line 4\n",
+        b"The answer is one of these lines:\n\n  accepted: 12 rows, all serials and all numbers differ\n  line 9: serial 4711 stands already in line 4\n  line 9: node number 12 stands already in line 4\n",
     );
     let bad = write(
         b"  refused 7: line 9: node number 200 is not 1 to 127\n  refused 8: more than 127 rows\n  error at line 9: not a serial and a node number\n\n",
     );
+    let second = write(
+        b"A form with a serial or a number that stands already gets a second line, with\nthe lowest number that none of its rows has:\n\n  the lowest free number is 5\n  no number from 1 to 127 is free\n\n",
+    );
     let end = write(
         b"All lines count for the numbering. Where the form is not accepted, that is said\non standard error too, and the exit status is 1.\n",
     );
-    good & bad & end
+    good & bad & second & end
 }
 
 // The only argument that there is.

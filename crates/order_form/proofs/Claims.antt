@@ -29,10 +29,10 @@ module _ (c : Column) (before : List Row) (r : Row) (rest : List Row) where
   abbrev place : ℕ
   place = firstOf (has c (valueOf c r)) before
 
-  before-at : (i : ℕ) → i < length before → at c (before ++ (r ∷ rest)) i ≡ at c before i
+  pub before-at : (i : ℕ) → i < length before → at c (before ++ (r ∷ rest)) i ≡ at c before i
   before-at i h = ap (of c) (List·getD-append before (r ∷ rest) noRow i h)
 
-  itself : at c (before ++ (r ∷ rest)) (length before) ≡ valueOf c r
+  pub itself : at c (before ++ (r ∷ rest)) (length before) ≡ valueOf c r
   itself = ap (of c) (getD-append-seam before r rest noRow) ∙ meant c r
 
   repeats : place < length before → Same c (before ++ (r ∷ rest)) (length before) place
@@ -47,7 +47,7 @@ module _ (c : Column) (before : List Row) (r : Row) (rest : List Row) where
       (sym (meant c _) ∙ sym (before-at i (s .earlier)) ∙ s .same ∙ itself)
 
 -- none of them repeats another, and the row after them repeats none
-more : (before : List Row) (r : Row) → NoRepeat before → ((c : Column) (i : ℕ) → Same c (before ++ (r ∷ [])) (length before) i → ⊥)
+pub more : (before : List Row) (r : Row) → NoRepeat before → ((c : Column) (i : ℕ) → Same c (before ++ (r ∷ [])) (length before) i → ⊥)
     → NoRepeat (before ++ (r ∷ []))
 more before r apart fresh c i j l h e = go (ltb j (length before)) refl
   where

@@ -3,7 +3,7 @@
 -- Assumes nothing.
 use Prim.Native.Nat.{ℕ, _≤_, _<_}
 use mathlib.Core.Path.{_≡_, refl, sym, _∙_, ap}
-use mathlib.Core.Bool.{Bool, true, false}
+use mathlib.Core.Bool.{Bool, true, false, true≢false}
 use mathlib.Core.List.{List}
 use native.Mathlib.Omega.{arith}
 use borrow.Author.Tests.{ltb-true, ltb-false}
@@ -31,20 +31,20 @@ neither a b p q = go (ltb a b) (ltb b a) refl refl
 
 -- ---- where the rows before one do not repeat
 module _ (rows : List Row) where
-  apart : (k : ℕ) → First rows k → (c : Column) (i j : ℕ) → i < j → j < k → at c rows i ≡ at c rows j → ⊥
-  apart k f c i j l h e =
+  pub apart-before : (k : ℕ) → First rows k → (c : Column) (i j : ℕ) → i < j → j < k → at c rows i ≡ at c rows j → ⊥
+  apart-before k f c i j l h e =
       f .before c i j l (rw (length-take-le k rows (omega (arith, f .inside))) h)
       (rw (getD-take k rows i noRow (omega arith), getD-take k rows j noRow h) e)
 
   -- the first row that repeats one is one row
   same-row : (k l : ℕ) → First rows k → First rows l → (c d : Column) (i j : ℕ) → Same c rows k i → Same d rows l j → k ≡ l
   same-row k l f g c d i j s t =
-      neither k l (λ h. apart l g c i k (s .earlier) h (s .same)) (λ h. apart k f d j l (t .earlier) h (t .same))
+      neither k l (λ h. apart-before l g c i k (s .earlier) h (s .same)) (λ h. apart-before k f d j l (t .earlier) h (t .same))
 
   -- and the row that it repeats is one row
-  same-earlier : (k : ℕ) → First rows k → (c : Column) (i j : ℕ) → Same c rows k i → Same c rows k j → i ≡ j
+  pub same-earlier : (k : ℕ) → First rows k → (c : Column) (i j : ℕ) → Same c rows k i → Same c rows k j → i ≡ j
   same-earlier k f c i j s t =
-      neither i j (λ h. apart k f c i j h (t .earlier) (s .same ∙ sym (t .same))) (λ h. apart k f c j i h (s .earlier) (t .same ∙ sym (s .same)))
+      neither i j (λ h. apart-before k f c i j h (t .earlier) (s .same ∙ sym (t .same))) (λ h. apart-before k f c j i h (s .earlier) (t .same ∙ sym (s .same)))
 
   one : (c : Column) (k l i j : ℕ) → First rows k → First rows l → Same c rows k i → Same c rows l j → Repeats c k i ≡ Repeats c l j
   one c k l i j f g s t =
@@ -101,3 +101,14 @@ only f g p q rows = go (ltb 127 (length rows)) (ltb (firstOf isOutside rows) (le
         let few : length rows ≤ 127 = ltb-false _ _ d in
         let all : AllNodes rows = inside-all rows e in
         one-claim rows (f rows) (g rows) (p .answered rows few all) (q .answered rows few all)
+
+-- a form that is sent back is one that may be searched: it has no more than 127 rows, and their numbers are 1..127
+pub searched : (check : List Row → Answer) → Demanded check → (rows : List Row) (c : Column) (k j : ℕ) → check rows ≡ Repeats c k j
+    → (length rows ≤ 127) × AllNodes rows
+unfolding answer
+searched check does rows c k j said = go (ltb 127 (length rows)) (ltb (firstOf isOutside rows) (length rows)) refl refl
+  where
+    go : (m o : Bool) → ltb 127 (length rows) ≡ m → ltb (firstOf isOutside rows) (length rows) ≡ o → (length rows ≤ 127) × AllNodes rows
+    go true o d e = absurd (true≢false (cc (sym said ∙ is-answer check does rows true o d e)))
+    go false true d e = absurd (true≢false (cc (sym said ∙ is-answer check does rows false true d e)))
+    go false false d e = (ltb-false _ _ d, inside-all rows e)

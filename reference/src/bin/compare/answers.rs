@@ -77,6 +77,16 @@ mod tests {
     }
 
     #[test]
+    fn every_line_of_the_output_is_one_to_compare() {
+        let lines = reference_form(b"4711,1\n4711,2\n");
+        let told =
+            ["line 2: serial 4711 stands already in line 1", "the lowest free number is 3", NOT_ACCEPTED];
+        assert_eq!(lines, told);
+        let program = Program::new(r"printf one\ntwo\n".to_string());
+        assert_eq!(program_form(&program, Vec::new()).unwrap(), ["one", "two", ACCEPTED]);
+    }
+
+    #[test]
     fn exit_status_and_standard_error_have_to_agree() {
         assert_eq!(acceptance_of(0, ""), [ACCEPTED]);
         assert_eq!(acceptance_of(1, "order: no\n"), [NOT_ACCEPTED]);

@@ -1,4 +1,5 @@
 //! Makes the rows of random order forms: first rows that all differ, then repeats and numbers out of range.
+//! The lowest free number, told with a repeat, depends on all rows; so some forms have every number below one.
 
 use crate::random::Random;
 use reference::form::MOST_ROWS;
@@ -7,6 +8,8 @@ use reference::form::MOST_ROWS;
 const SERIALS: [u32; 10] = [0, 1, 127, 128, 255, 4_711, 65_536, 2_147_483_648, 4_294_967_294, 4_294_967_295];
 const NODES_OUT_OF_RANGE: [u32; 14] =
     [0, 0, 128, 128, 129, 200, 255, 256, 257, 383, 65_537, 16_777_217, u32::MAX - 1, u32::MAX];
+/// At both ends, and at the end of the first 64; 128 if none is to be free.
+const FREE_NODES: [u32; 8] = [1, 63, 64, 65, 126, 127, 128, 128];
 
 #[derive(Clone, Copy)]
 pub struct Row {
@@ -15,13 +18,39 @@ pub struct Row {
 }
 
 pub fn rows(random: &mut Random) -> Vec<Row> {
+    let mut rows = match random.chance(35) {
+        true => rows_up_to_a_free_node(random),
+        false => any_rows(random),
+    };
+    for _ in 0..random.pick(&[0, 0, 0, 0, 0, 0, 0, 0, 1, 3]) {
+        leave_range(random, &mut rows);
+    }
+    rows
+}
+
+/// The numbers differ as far as there are enough of them, before some are repeated.
+fn any_rows(random: &mut Random) -> Vec<Row> {
     let count = count(random);
-    let mut rows = different_rows(random, count);
+    let nodes: Vec<u32> = nodes(random).into_iter().cycle().take(count).collect();
+    let mut rows = different_rows(random, &nodes);
     for _ in 0..random.pick(&[0, 0, 0, 0, 0, 1, 1, 1, 1, 2, 3]) {
         repeat(random, &mut rows);
     }
-    for _ in 0..random.pick(&[0, 0, 0, 0, 0, 0, 0, 0, 1, 3]) {
-        leave_range(random, &mut rows);
+    rows
+}
+
+/// Every number below a free one, and all, some or none of those above it.
+fn rows_up_to_a_free_node(random: &mut Random) -> Vec<Row> {
+    let free = match random.chance(60) {
+        true => random.pick(&FREE_NODES),
+        false => 1 + random.below(128),
+    };
+    let percent_above = random.pick(&[0, 10, 50, 100]);
+    let mut nodes = nodes(random);
+    nodes.retain(|&node| node < free || node > free && random.chance(percent_above));
+    let mut rows = different_rows(random, &nodes);
+    for _ in 0..random.pick(&[0, 1, 1, 1, 1, 2, 3]) {
+        repeat_and_free_none(random, &mut rows);
     }
     rows
 }
@@ -29,26 +58,30 @@ pub fn rows(random: &mut Random) -> Vec<Row> {
 /// Mostly few, so that what is wrong with them is not hidden; often about as many as a form may have.
 fn count(random: &mut Random) -> usize {
     let count = match random.below(100) {
-        0..=71 => random.below(13),
-        72..=79 => 13 + random.below(112),
-        80..=95 => 126 + random.below(5),
+        0..=67 => random.below(13),
+        68..=74 => 13 + random.below(112),
+        75..=95 => 126 + random.below(5),
         _ => 131 + random.below(300),
     };
     count as usize
 }
 
-/// All serials differ, and so do all numbers as far as there are enough of them.
-fn different_rows(random: &mut Random, count: usize) -> Vec<Row> {
-    let nodes = nodes(random);
+/// All serials differ.
+fn different_rows(random: &mut Random, nodes: &[u32]) -> Vec<Row> {
     let mut rows: Vec<Row> = Vec::new();
-    for number in 0..count {
-        let mut serial = serial(random, &rows);
-        while rows.iter().any(|row| row.serial == serial) {
-            serial = random.word();
-        }
-        rows.push(Row { serial, node: nodes[number % MOST_ROWS] });
+    for &node in nodes {
+        let serial = new_serial(random, &rows);
+        rows.push(Row { serial, node });
     }
     rows
+}
+
+fn new_serial(random: &mut Random, rows: &[Row]) -> u32 {
+    let mut serial = serial(random, rows);
+    while rows.iter().any(|row| row.serial == serial) {
+        serial = random.word();
+    }
+    serial
 }
 
 fn serial(random: &mut Random, earlier: &[Row]) -> u32 {
@@ -82,8 +115,7 @@ fn repeat(random: &mut Random, rows: &mut [Row]) {
     if rows.len() < 2 {
         return;
     }
-    let last = rows.len() - 1;
-    let later = if random.chance(25) { last } else { 1 + random.below(last as u32) as usize };
+    let later = later(random, rows.len() - 1);
     let [one, other] = [0; 2].map(|_| random.below(later as u32) as usize);
     if random.chance(20) {
         rows[one].serial = random.pick(&SERIALS);
@@ -94,6 +126,31 @@ fn repeat(random: &mut Random, rows: &mut [Row]) {
         2..=5 => rows[later].node = rows[one].node,
         6 => rows[later] = rows[one],
         _ => rows[later] = Row { serial: rows[one].serial, node: rows[other].node },
+    }
+}
+
+/// Adds a row that repeats a number, or lets one repeat a serial, so that no number is given up.
+fn repeat_and_free_none(random: &mut Random, rows: &mut Vec<Row>) {
+    if rows.len() < 2 {
+        return;
+    }
+    if rows.len() < MOST_ROWS && random.chance(60) {
+        let later = later(random, rows.len());
+        let serial = new_serial(random, rows);
+        let node = random.pick(&rows[..later]).node;
+        rows.insert(later, Row { serial, node });
+    } else {
+        let later = later(random, rows.len() - 1);
+        rows[later].serial = random.pick(&rows[..later]).serial;
+    }
+}
+
+/// The place of a row that repeats one before it. Often the last, and sometimes the first that can.
+fn later(random: &mut Random, last: usize) -> usize {
+    match random.below(100) {
+        0..=24 => last,
+        25..=34 => 1,
+        _ => 1 + random.below(last as u32) as usize,
     }
 }
 

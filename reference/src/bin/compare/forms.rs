@@ -1,4 +1,4 @@
-//! Makes random order forms. Most are short with little wrong, so that every answer is frequent; some have
+//! Makes random order forms. Many are short with little wrong, so that every answer is frequent; some have
 //! several things wrong, so that the answers compete.
 
 use crate::form_lines::{Speller, BYTE_ORDER_MARK};
@@ -114,8 +114,9 @@ fn mark(random: &mut Random, lines: &mut Vec<Vec<u8>>) {
 #[cfg(test)]
 mod tests {
     use super::*;
-    use reference::form::{check, Answer, MOST_ROWS};
+    use reference::form::{check, Answer, Repeat, MOST_ROWS};
     use reference::script::LONGEST_LINE;
+    use std::collections::BTreeMap;
 
     #[test]
     fn every_answer_is_frequent() {
@@ -123,8 +124,8 @@ mod tests {
         for number in 1..=500 {
             let kind = match check(&form(1, number).bytes()) {
                 Answer::Accepted { .. } => 0,
-                Answer::SerialRepeated { .. } => 1,
-                Answer::NodeRepeated { .. } => 2,
+                Answer::SentBack { repeat: Repeat::Serial { .. }, .. } => 1,
+                Answer::SentBack { repeat: Repeat::Node { .. }, .. } => 2,
                 Answer::NodeOutOfRange { .. } => 3,
                 Answer::TooManyRows => 4,
                 Answer::Malformed { .. } => 5,
@@ -143,5 +144,33 @@ mod tests {
         assert!(some(&|form| check(&form.bytes()) == Answer::Accepted { rows: MOST_ROWS }));
         assert!(some(&|form| form.bytes().windows(2).any(|pair| pair == b"\r ")));
         assert!(some_line_has(LONGEST_LINE) && some_line_has(LONGEST_LINE + 1));
+    }
+
+    #[test]
+    fn lowest_free_numbers_are_frequent_at_the_edges_and_spread_between() {
+        let mut counts = BTreeMap::new();
+        for number in 1..=500 {
+            if let Answer::SentBack { lowest_free, .. } = check(&form(1, number).bytes()) {
+                *counts.entry(lowest_free).or_insert(0) += 1;
+            }
+        }
+        let edges = [Some(1), Some(63), Some(64), Some(65), Some(126), Some(127), None];
+        assert!(edges.iter().all(|edge| counts.get(edge).is_some_and(|&count| count >= 4)), "{counts:?}");
+        assert!(counts.len() >= 40, "{counts:?}");
+    }
+
+    #[test]
+    fn rows_after_a_repeat_often_change_the_lowest_free_number() {
+        let changes = |form: &Text| {
+            let answer = check(&form.bytes());
+            let Answer::SentBack { repeat: Repeat::Serial { line, .. } | Repeat::Node { line, .. }, .. } =
+                answer
+            else {
+                return false;
+            };
+            let lines = form.lines[..line].to_vec();
+            check(&Text { lines, ends_in_newline: true }.bytes()) != answer
+        };
+        assert!((1..=500).filter(|&number| changes(&form(1, number))).count() >= 40);
     }
 }

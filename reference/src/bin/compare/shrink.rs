@@ -224,6 +224,16 @@ mod tests {
     }
 
     #[test]
+    fn the_rows_that_a_free_number_needs_stay_in_a_form() {
+        let form = text(&["8,6", "1,3", "2,1", "# x", "9,5", "3,3", "4,2"]);
+        let mut frees_4 = |form: &Text| {
+            let answers = crate::answers::reference_form(&form.bytes());
+            answers[1] == "the lowest free number is 4"
+        };
+        assert_eq!(shrink_form(form, &mut frees_4).bytes(), b"1,3\n2,1\n3,3\n4,2\n");
+    }
+
+    #[test]
     fn a_form_of_long_lines_is_not_tried_for_ever() {
         let line = "-".repeat(60_000);
         let mut tries = 0;

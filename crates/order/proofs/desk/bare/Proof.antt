@@ -6,4 +6,4 @@ use Rattle.order.proofs.desk.bare.Tie as tie
 
 pub bare-spec : {M : Type 1} → statement M
 unfolding deskOf
-bare-spec = tie.close (tie.spec (λ c κs. tt) (λ c. rw (c .blank .ensures)))
+bare-spec = tie.close (tie.spec (λ c κs. tt) (λ c κs. tt) (λ c. rw (c .before .blank .ensures, c .empty .ensures)))

@@ -1,0 +1,10 @@
+pub mod Words
+pub mod Lowest
+pub mod Maps
+pub mod Nodes
+pub mod Among
+pub mod Rows
+pub mod Demands
+pub mod Only
+pub mod Wrongs
+pub mod Examples
