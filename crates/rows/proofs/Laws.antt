@@ -1,24 +1,23 @@
 -- What holds of the rows for any caller: places and addresses, values that lie in their rows, the limits of the node address and of
 -- the two signed parameters. What speaks of the 39 rows alone is one computed test over them.
 -- Assumes nothing.
-use mathlib.Core.Path.{_≡_, refl, sym, ap}
+use mathlib.Core.Path.{_≡_, refl, sym}
 use mathlib.Core.Bool.{Bool, true, false, true≢false}
 use mathlib.Core.List.{List, map}
 use Prim.Native.Nat.{ℕ, suc, _-_, _<_, _≤_}
 use native.Mathlib.Omega.{arith}
-use lib.Dec.{T, eqb, ltb, eqb→eq}
+use lib.Dec.{ltb}
 use lib.IntN.{ℤ, pos, negsuc, natAbs}
 use lib.ListN.{getD, set}
 use lib.Signed.{ltZ}
 use borrow.Author.Tests.{ltb-true, ltb-false, le-ltb}
 use Rattle.signed.specs.Number.{numberOf}
-use Rattle.rows.specs.declared.table.Place.{Place}
-use Rattle.rows.specs.declared.table.Place.the-variants.{At, Nowhere}
+use Rattle.rows.specs.declared.table.Place.the-variants.{At}
 use Rattle.rows.specs.declared.range.Range.the-variants.{Right}
 use Rattle.rows.specs.Table.{address, delivery, rows, blank, rowOf, placeOf}
 use Rattle.rows.specs.Ranges.{isSignedOf, readingOf, unlistedOf, betweenOf, rangeIn, rangeOf, isRight, fitsIn, allRightOf}
 use Rattle.rows.proofs.Span.{in-span, is-true}
-use Rattle.rows.proofs.Walk.{found}
+use Rattle.rows.proofs.Places.{found, same, same-only}
 use Rattle.rows.proofs.Fits.{each-in, set-in}
 
 -- ---- places and addresses
@@ -30,17 +29,9 @@ pub place-address : (a : ℕ) {i : ℕ} → placeOf a ≡ At i → address (rowO
 unfolding placeOf rowOf
 place-address a {i} e = let n : i - 0 ≡ i = omega arith in rw n at (found blank rows 0 a e .2)
 
-abbrev isAt : ℕ → Place → Bool
-isAt i (At k) = eqb k i
-isAt i Nowhere = false
-
-at-only : (i : ℕ) (p : Place) → T (isAt i p) → p ≡ At i
-at-only i (At k) t = ap At (eqb→eq k i t)
-at-only i Nowhere t = absurd t
-
 pub row-place : (i : ℕ) → i < 39 → placeOf (address (rowOf i)) ≡ At i
 unfolding placeOf rowOf rows
-row-place i h = at-only i _ (in-span (λ k. isAt k (placeOf (address (rowOf k)))) 0 39 tt i (omega arith) h)
+row-place i h = same-only _ (At i) (in-span (λ k. same (placeOf (address (rowOf k))) (At k)) 0 39 tt i (omega arith) h)
 
 pub row-below : (i : ℕ) → i < 39 → address (rowOf i) < 256
 unfolding rowOf rows

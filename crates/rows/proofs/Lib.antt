@@ -1,5 +1,5 @@
 pub mod Span
-pub mod Walk
+pub mod Places
 pub mod Groups
 pub mod Tests
 pub mod Fits

@@ -9,8 +9,11 @@ use mathlib.Core.List.{List}
 use lib.ListN.{length, drop}
 use Rattle.rows.specs.Table.{rows, rowOf, blank}
 use Rattle.rows.specs.Ranges.{allIn, rightFrom, allRightOf}
-use Rattle.rows.proofs.Walk.{rows-39}
 use Rattle.rows.proofs.Fits.{turn, done}
+
+rows-39 : length rows ≡ 39
+unfolding rows
+rows-39 = refl
 
 -- what was found so far, with what is left, is the same after n more places
 module _ (ws : List ℕ) (long : length ws ≡ 39) where

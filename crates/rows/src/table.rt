@@ -1,6 +1,6 @@
 // The 39 rows of limits and delivery values, and the place of an address among them.
 ghost use mathlib.Core.Path.{_≡_};
-ghost use Rattle.rows.specs.Table.{rows, rowOf, placeIn, placeOf};
+ghost use Rattle.rows.specs.Table.{rowOf, placeOf};
 
 // Address, low, high, delivery value.
 pub struct Row(pub u8, pub i64, pub i64, pub u32);
@@ -10,6 +10,7 @@ pub enum Place {
     Nowhere,
 }
 
+// The table: a constant for each row, in the order of their places.
 const ROW_00: Row = Row(0x00, 1, 127, 31);
 
 const ROW_01: Row = Row(0x01, 0, 2, 1);
@@ -88,49 +89,7 @@ const ROW_40: Row = Row(0x40, 0, 1, 1);
 
 const ROW_D0: Row = Row(0xD0, 0, 20, 0);
 
-const ROWS: [Row; 39] = [
-    ROW_00,
-    ROW_01,
-    ROW_02,
-    ROW_03,
-    ROW_04,
-    ROW_05,
-    ROW_06,
-    ROW_07,
-    ROW_08,
-    ROW_09,
-    ROW_0A,
-    ROW_0B,
-    ROW_0C,
-    ROW_0D,
-    ROW_0E,
-    ROW_0F,
-    ROW_1B,
-    ROW_1C,
-    ROW_1E,
-    ROW_1F,
-    ROW_20,
-    ROW_21,
-    ROW_22,
-    ROW_28,
-    ROW_30,
-    ROW_31,
-    ROW_32,
-    ROW_33,
-    ROW_34,
-    ROW_35,
-    ROW_39,
-    ROW_3A,
-    ROW_3B,
-    ROW_3C,
-    ROW_3D,
-    ROW_3E,
-    ROW_3F,
-    ROW_40,
-    ROW_D0,
-];
-
-// The row at a place; past the table, a row of nothing. A caller that names the place gets the numbers as constants, where a table would be
+// The row at a place; past the table, a row of nothing. A caller that names the place gets the numbers as constants, where an array would be
 // laid out anew at each use.
 pub fn row_of(i: usize) -> Row
     ensures { λ r. ⌜ r ≡ rowOf i ⌝ }
@@ -179,31 +138,18 @@ pub fn row_of(i: usize) -> Row
     }
 }
 
-// The whole table, to be walked: a constant that a loop reads is made anew at each turn.
-fn all_rows() -> [Row; 39]
-    ensures { λ r. ⌜ r ≡ rows ⌝ }
-{
-    ROWS
-}
-
-// The first of these rows that has the address.
-fn place_in(rows: [Row; 39], address: u8) -> Place
-    ensures { λ r. ⌜ r ≡ placeIn rows 0 address ⌝ }
-{
-    let mut i: usize = 0;
-    while i < 39 {
-        let r = rows[i];
-        if r.0 == address {
-            return Place::At(i);
-        }
-        i += 1;
-    }
-    Place::Nowhere
-}
-
-// The place of a stored parameter.
+// The place of a stored parameter: its address, less the addresses before it that have no place.
 pub fn place_of(address: u8) -> Place
     ensures { λ r. ⌜ r ≡ placeOf address ⌝ }
 {
-    place_in(all_rows(), address)
+    match address {
+        0x00..=0x0F => Place::At(address as usize),
+        0x1B..=0x1C => Place::At((address - 11) as usize),
+        0x1E..=0x22 => Place::At((address - 12) as usize),
+        0x28 => Place::At(23),
+        0x30..=0x35 => Place::At((address - 24) as usize),
+        0x39..=0x40 => Place::At((address - 27) as usize),
+        0xD0 => Place::At(38),
+        _ => Place::Nowhere,
+    }
 }
