@@ -77,6 +77,7 @@ struct Running {
     static_bit: bool,
     pending_error: Option<ErrorCode>,
     damaged_in_a_row: u32,
+    bits_hit: u8,
     input_errors: ErrorList,
     keys: u8,
     kept_position: Option<i64>,
@@ -175,6 +176,12 @@ impl Head {
 
     // The calls.
 
+    /// The exclusive-or of the last damaged telegram heard, whomever it was for; 0 if there was none since
+    /// the restart.
+    pub fn bits_hit(&self) -> u8 {
+        self.running.bits_hit
+    }
+
     /// One byte heard on the line; the reply if the head answers.
     pub fn byte(&mut self, time: u32, byte: u8) -> Option<Reply> {
         let ear = &mut self.running;
@@ -228,7 +235,7 @@ impl Head {
 
     fn hear(&mut self, time: u32, telegram: Telegram) -> Option<Reply> {
         let status_word_before = self.status_word();
-        if !telegram.is_sound() {
+        if telegram.exclusive_or() != 0 {
             return self.hear_damaged(&telegram, status_word_before);
         }
         self.running.damaged_in_a_row = 0;
@@ -244,6 +251,7 @@ impl Head {
     }
 
     fn hear_damaged(&mut self, telegram: &Telegram, status_word_before: u16) -> Option<Reply> {
+        self.running.bits_hit = telegram.exclusive_or();
         self.running.damaged_in_a_row += 1;
         if self.running.damaged_in_a_row == DAMAGED_FOR_AN_ERROR {
             self.running.damaged_in_a_row = 0;

@@ -93,6 +93,11 @@ impl Line {
         Ok(())
     }
 
+    /// The exclusive-or of the last damaged telegram that a head heard.
+    pub fn bits_hit(&self, head: u32) -> Result<u8, Refusal> {
+        self.heads.get(head as usize).map(Head::bits_hit).ok_or(Refusal::HeadNumber)
+    }
+
     fn head(&mut self, number: u32) -> Result<&mut Head, Refusal> {
         self.heads.get_mut(number as usize).ok_or(Refusal::HeadNumber)
     }

@@ -19,6 +19,7 @@ line, words separated by blanks or tabs, one line of output for each.
   measure HEAD VALUE   a head's measurement; VALUE may have a minus sign
   keys HEAD STATE      a head's keys: 1 left, 2 star, 4 up, or a sum of these
   power HEAD           switch a head off and on
+  xor HEAD             which bits were hit in the last damaged telegram heard
   space SIZE           how much reply space bytes lend, 0 to 64; 10 at first
 
 Numbers are decimal, TIME is in milliseconds. Blank lines and lines whose first
@@ -27,6 +28,8 @@ word starts with # are passed over.
   ok                   done
   sent ...             the bytes are fed; then each reply as twenty hex digits,
                        or 'collision N' where N heads replied at once
+  xor HH               the exclusive-or of its ten bytes as two hex digits; 00
+                       if the head has heard none since it last started
   refused N            1 node number not 1 to 127   4 measurement out of range
                        2 ninth head                 5 key state above 7
                        3 no such head               6 space under ten bytes
@@ -41,6 +44,7 @@ pub enum Command {
     Measure { head: u32, value: i32 },
     Keys { head: u32, state: u32 },
     Power { head: u32 },
+    Xor { head: u32 },
     Space { size: usize },
 }
 
@@ -74,6 +78,7 @@ fn command(words: &[&[u8]]) -> Option<Command> {
         [b"measure", head, value] => Some(Command::Measure { head: unsigned(head)?, value: signed(value)? }),
         [b"keys", head, state] => Some(Command::Keys { head: unsigned(head)?, state: unsigned(state)? }),
         [b"power", head] => Some(Command::Power { head: unsigned(head)? }),
+        [b"xor", head] => Some(Command::Xor { head: unsigned(head)? }),
         [b"space", size] => {
             let size = unsigned(size)? as usize;
             (size <= LARGEST_SPACE).then_some(Command::Space { size })
@@ -166,6 +171,7 @@ impl Simulation {
             Command::Measure { head, value } => self.line.measure(head, value),
             Command::Keys { head, state } => self.line.keys(head, state),
             Command::Power { head } => self.line.power(head),
+            Command::Xor { head } => return self.xor(head),
             Command::Space { size } => {
                 self.space = size;
                 Ok(())
@@ -193,6 +199,13 @@ impl Simulation {
             }
         }
         answer
+    }
+
+    fn xor(&self, head: u32) -> String {
+        match self.line.bits_hit(head) {
+            Ok(bits) => format!("xor {}", hex(&[bits])),
+            Err(refusal) => refused(refusal),
+        }
     }
 }
 
@@ -256,13 +269,14 @@ mod tests {
 
     #[test]
     fn every_command_is_understood() {
-        let commands: [(&[u8], Command); 8] = [
+        let commands: [(&[u8], Command); 9] = [
             (b"head 31", Command::Head { node: 31 }),
             (b"send 7 00fFA0", Command::Send { time: 7, bytes: vec![0x00, 0xFF, 0xA0] }),
             (b"tick 4294967295", Command::Tick { time: u32::MAX }),
             (b"measure 0 -2147483648", Command::Measure { head: 0, value: i32::MIN }),
             (b"\t keys  1\t5 ", Command::Keys { head: 1, state: 5 }),
             (b"power 0000000000000002", Command::Power { head: 2 }),
+            (b"xor 4294967295", Command::Xor { head: u32::MAX }),
             (b"space 64\r", Command::Space { size: 64 }),
             (b"measure 0 -0", Command::Measure { head: 0, value: 0 }),
         ];
@@ -283,7 +297,8 @@ mod tests {
         let lines = b"heads 1|HEAD 1|head|head 1 2|head -1|head +1|head 1a|head 0x1|head 4294967296|head 1#|\
             head 99999999999999999999|send 0|send 0 0|send 0 000|send 0 0G|send 0 00 00|send 0 0x00|\
             send 4294967296 00|tick|tick 1 2|measure 0|measure 0 2147483648|measure 0 -2147483649|\
-            measure 0 -|measure 0 --1|measure 0 +1|measure -0 1|keys 0 -1|power|space 65|space -1|\
+            measure 0 -|measure 0 --1|measure 0 +1|measure -0 1|keys 0 -1|power|\
+            xor|xor 0 0|xor -1|xor -0|xor x|xor 0x0|xor 4294967296|XOR 0|xor0|space 65|space -1|\
             head 1\r\r|head\x0B1|\xFF\x00";
         for line in lines.split(|&byte| byte == b'|') {
             assert_eq!(meaning(line), Meaning::Error, "{}", line.escape_ascii());

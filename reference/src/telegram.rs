@@ -50,8 +50,9 @@ impl Telegram {
         self.bytes
     }
 
-    pub fn is_sound(&self) -> bool {
-        exclusive_or(&self.bytes) == 0
+    /// The check of the ten bytes: 0 if the telegram is sound, else the bits that were hit.
+    pub fn exclusive_or(&self) -> u8 {
+        exclusive_or(&self.bytes)
     }
 
     pub fn is_broadcast(&self) -> bool {
@@ -107,18 +108,18 @@ mod tests {
     fn fields_stand_high_byte_first() {
         let telegram = Telegram::new(WRITE, 31, 0x1E, 0x1234, 0x5678_9ABC);
         assert_eq!(telegram.bytes()[..9], [1, 31, 0x1E, 0x12, 0x34, 0x56, 0x78, 0x9A, 0xBC]);
-        assert!(telegram.is_sound());
+        assert_eq!(telegram.exclusive_or(), 0);
         assert_eq!(telegram.control_word(), 0x1234);
         assert_eq!(telegram.data(), 0x5678_9ABC);
     }
 
     #[test]
-    fn any_flipped_bit_makes_a_telegram_damaged() {
+    fn any_flipped_bit_is_the_one_that_was_hit() {
         let sound = Telegram::new(READ, 31, 0x20, 0, 0).bytes();
         for bit in 0..80 {
             let mut damaged = sound;
             damaged[bit / 8] ^= 1 << (bit % 8);
-            assert!(!Telegram::received(damaged).is_sound());
+            assert_eq!(Telegram::received(damaged).exclusive_or(), 1 << (bit % 8));
         }
     }
 }

@@ -27,7 +27,7 @@ fn refusal_2_ninth_head_goes_before_1() {
 #[test]
 fn refusal_3_head_number_goes_before_4_and_5() {
     let mut desk = Desk::with_heads(&[31]);
-    for line in ["measure 1 0", "measure 1 3000000", "keys 1 0", "keys 4294967295 9", "power 1"] {
+    for line in ["measure 1 0", "measure 1 3000000", "keys 1 0", "keys 4294967295 9", "power 1", "xor 1"] {
         assert_eq!(desk.line(line), "refused 3", "{line}");
     }
 }

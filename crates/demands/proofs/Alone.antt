@@ -32,15 +32,15 @@ use Rattle.demands.proofs.Sim.{fresh-values}
 pub restarted : (h : Head) → Restarted h (restartedOf h)
 unfolding restartedOf restartedStored restartedFaults restartedMeasurement noTargets stopped emptyEar emptyList
 restarted h =
-    record { values = refl; unlocked = refl; memory = refl; zero = refl; adopted = refl; m = refl; number = refl; baud = refl; first = refl; valid1 = refl; second = refl; valid2 = refl; word = refl; reached = refl; pending = refl; damaged = refl; inputs = refl; keys = refl; frozen = refl; kept = refl; incremental = refl; start = refl; running = refl; since′ = refl; gathered = refl }
+    record { values = refl; unlocked = refl; memory = refl; zero = refl; adopted = refl; m = refl; number = refl; baud = refl; first = refl; valid1 = refl; second = refl; valid2 = refl; word = refl; reached = refl; pending = refl; hit = refl; damaged = refl; inputs = refl; keys = refl; frozen = refl; kept = refl; incremental = refl; start = refl; running = refl; since′ = refl; gathered = refl }
 
 pub ticked : (h : Head) (t : ℕ) → Ticked h (tickedOf h t) t
 unfolding tickedOf overdueOf elapsedOf since raisedOf stopped
 ticked h t = go (overdue h t) refl
   where
     go : (late : Bool) → overdue h t ≡ late → Ticked h (tickedOf h t) t
-    go true e = record { pending = rw e; memory = rw e; running = rw e; since′ = rw e; inputs = rw e; damaged = rw e; stored = rw e; measurement = rw e; targets = rw e; ear = rw e; keys = rw e }
-    go false e = record { pending = rw e; memory = rw e; running = rw e; since′ = rw e; inputs = rw e; damaged = rw e; stored = rw e; measurement = rw e; targets = rw e; ear = rw e; keys = rw e }
+    go true e = record { pending = rw e; memory = rw e; running = rw e; since′ = rw e; inputs = rw e; hit = rw e; damaged = rw e; stored = rw e; measurement = rw e; targets = rw e; ear = rw e; keys = rw e }
+    go false e = record { pending = rw e; memory = rw e; running = rw e; since′ = rw e; inputs = rw e; hit = rw e; damaged = rw e; stored = rw e; measurement = rw e; targets = rw e; ear = rw e; keys = rw e }
 
 pub measured : (h : Head) (m : ℤ) → Measured h (measuredOf h m) m
 unfolding measuredOf movedOf settledOf withinOf aimedOf
@@ -61,6 +61,7 @@ Left on x y =
     × (y .measurement .kept ≡ x .measurement .kept)
     × (y .faults .memory ≡ x .faults .memory)
     × (y .faults .inputs ≡ x .faults .inputs)
+    × (y .faults .hit ≡ x .faults .hit)
     × (y .faults .damaged ≡ x .faults .damaged)
     × (y .stored ≡ x .stored)
     × (y .targets ≡ x .targets)
@@ -70,13 +71,13 @@ Left on x y =
 
 left : (on : Bool) (x : Head) → Left on x (leftOf on x)
 unfolding leftOf calibratedOf
-left false x = (refl, refl, refl, refl, refl, refl, refl, refl, refl, refl, refl, refl, refl, refl, refl, refl)
+left false x = (refl, refl, refl, refl, refl, refl, refl, refl, refl, refl, refl, refl, refl, refl, refl, refl, refl)
 left true x = go (eqb (x .faults .pending) 0) refl (eqb (setting x calibrationKeyPlace) 1) refl
   where
     go : (clear : Bool) → eqb (x .faults .pending) 0 ≡ clear → (may : Bool) → eqb (setting x calibrationKeyPlace) 1 ≡ may → Left true x (leftOf true x)
-    go false e may f = rw e (refl, refl, refl, refl, refl, refl, refl, refl, refl, refl, refl, refl, refl, refl, refl, refl)
-    go true e true f = rw (e, f) (eqb-true (x .faults .pending) 0 e, refl, refl, refl, refl, refl, refl, refl, refl, refl, refl, refl, refl, refl, refl, refl)
-    go true e false f = rw (e, f) (eqb-true (x .faults .pending) 0 e, refl, refl, refl, refl, refl, refl, refl, refl, refl, refl, refl, refl, refl, refl, refl)
+    go false e may f = rw e (refl, refl, refl, refl, refl, refl, refl, refl, refl, refl, refl, refl, refl, refl, refl, refl, refl)
+    go true e true f = rw (e, f) (eqb-true (x .faults .pending) 0 e, refl, refl, refl, refl, refl, refl, refl, refl, refl, refl, refl, refl, refl, refl, refl, refl)
+    go true e false f = rw (e, f) (eqb-true (x .faults .pending) 0 e, refl, refl, refl, refl, refl, refl, refl, refl, refl, refl, refl, refl, refl, refl, refl, refl)
 
 abbrev Up : Bool → Head → Head → Type 0
 Up on x y =
@@ -110,22 +111,23 @@ keyed h s =
     let l = left (newly 1 h s) (withKeys h s) in
     let u = up (newly 4 h s) (leftOf (newly 1 h s) (withKeys h s)) in
     record {
-      keys = u .12 ∙ l .15;
+      keys = u .12 ∙ l .16;
       pending = ap (λ (f : Faults). f .pending) (u .7) ∙ l .0;
       zero = u .2 ∙ l .1;
       adopted = u .3 ∙ l .2;
-      incremental = u .0 ∙ rw (l .11, l .3);
-      start = u .1 ∙ rw (l .11, l .3, l .5, l .4);
+      incremental = u .0 ∙ rw (l .12, l .3);
+      start = u .1 ∙ rw (l .12, l .3, l .5, l .4);
       m = u .4 ∙ l .5;
       frozen = u .5 ∙ l .6;
       kept = u .6 ∙ l .7;
       memory = ap (λ (f : Faults). f .memory) (u .7) ∙ l .8;
       inputs = ap (λ (f : Faults). f .inputs) (u .7) ∙ l .9;
-      damaged = ap (λ (f : Faults). f .damaged) (u .7) ∙ l .10;
-      stored = u .8 ∙ l .11;
-      targets = u .9 ∙ l .12;
-      monitor = u .10 ∙ l .13;
-      ear = u .11 ∙ l .14;
+      hit = ap (λ (f : Faults). f .hit) (u .7) ∙ l .10;
+      damaged = ap (λ (f : Faults). f .damaged) (u .7) ∙ l .11;
+      stored = u .8 ∙ l .12;
+      targets = u .9 ∙ l .13;
+      monitor = u .10 ∙ l .14;
+      ear = u .11 ∙ l .15;
     }
 
 -- ---- the calls, where they are done

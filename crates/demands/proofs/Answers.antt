@@ -9,7 +9,7 @@ use borrow.Author.Tests.{le-ltb}
 use lib.Dec.{ltb}
 use lib.ListN.{length, take, drop}
 use lib.Seq.{take-at}
-use Rattle.wire.specs.Check.{soundOf}
+use Rattle.wire.specs.Check.{hitOf}
 use Rattle.judge.specs.declared.deed.Deed.the-variants.{Restart}
 use Rattle.judge.specs.Judged.{judgedOf}
 use Rattle.state.specs.declared.parts.Head.{Head}
@@ -55,7 +55,7 @@ module _ (h : Head) (b t : ℕ) (space : List ℕ) (k : Taken h space) where
 
 -- ---- every reply is sound and has ten bytes
 abbrev Sound : List ℕ → Type 0
-Sound x = (soundOf x ≡ true) × (length x ≡ 10)
+Sound x = (hitOf x ≡ 0) × (length x ≡ 10)
 
 step-sound : (h : Head) (b t : ℕ) (w : Bool) → gatheredOf (h .ear) b t .whole ≡ w → stepOf h b t .replied ≡ true → Sound (stepOf h b t .reply)
 unfolding stepOf tellOf
@@ -64,12 +64,12 @@ step-sound h b t true e r =
     rw e (reply-sound j h (statusOf h) (rw e at r), reply-ten j h (statusOf h))
 step-sound h b t false e r = absurd (true≢false (sym (rw e at r)))
 
-laid-sound : (space x : List ℕ) → ltb (length space) 10 ≡ false → Sound x → soundOf (take 10 (laidOn space x)) ≡ true
+laid-sound : (space x : List ℕ) → ltb (length space) 10 ≡ false → Sound x → hitOf (take 10 (laidOn space x)) ≡ 0
 unfolding laidOn
 laid-sound space x e s = simp e (rw (take-at x (drop 10 space) 10 (s .1)) (s .0))
 
 pub head-sound : (h : Head) (b t : ℕ) (space : List ℕ) (w r s : Bool) → wellformedOf h ≡ w → ltb (length space) 10 ≡ r → stepOf h b t .replied ≡ s
-    → byteOf h b t (length space) .heard ≡ heard.Replies 1 → soundOf (take 10 (byteSpaceOf h b t space)) ≡ true
+    → byteOf h b t (length space) .heard ≡ heard.Replies 1 → hitOf (take 10 (byteSpaceOf h b t space)) ≡ 0
 unfolding byteOf byteSpaceOf
 head-sound h b t space false r s p q x e = absurd (let k : heard.Refused Malformed ≡ heard.Replies 1 = simp p at e in let z : _≡_ {A = ℕ} 0 1 = cc in omega arith)
 head-sound h b t space true true s p q x e = absurd (let k : heard.Refused Space ≡ heard.Replies 1 = simp (p, q) at e in let z : _≡_ {A = ℕ} 0 1 = cc in omega arith)
@@ -94,13 +94,13 @@ all-sound zero hs b t = tt
 all-sound (suc n) [] b t = tt
 all-sound (suc n) (h ∷ hs) b t = joined (saidBy (stepOf h b t)) (repliesOf n hs b t) (one-sound h b t (stepOf h b t .replied) refl) (all-sound n hs b t)
 
-laid-by : (rs : List (List ℕ)) (space : List ℕ) → ltb (length space) 10 ≡ false → AllSound rs → length rs ≡ 1 → soundOf (take 10 (line.laidBy rs space)) ≡ true
+laid-by : (rs : List (List ℕ)) (space : List ℕ) → ltb (length space) 10 ≡ false → AllSound rs → length rs ≡ 1 → hitOf (take 10 (line.laidBy rs space)) ≡ 0
 laid-by [] space e a n = absurd (omega arith)
 laid-by (x ∷ []) space e a n = laid-sound space x e (a .0)
 laid-by (x ∷ (y ∷ rs)) space e a n = absurd (omega arith)
 
 pub line-sound : (l : Line) (b t : ℕ) (space : List ℕ) (f r : Bool) → line.fitsOf l ≡ f → ltb (length space) 10 ≡ r
-    → line.byteOf l b t (length space) .heard ≡ heard.Replies 1 → soundOf (take 10 (line.byteSpaceOf l b t space)) ≡ true
+    → line.byteOf l b t (length space) .heard ≡ heard.Replies 1 → hitOf (take 10 (line.byteSpaceOf l b t space)) ≡ 0
 unfolding line.byteOf line.byteSpaceOf
 line-sound l b t space false r p q e = absurd (let k : heard.Refused Malformed ≡ heard.Replies 1 = simp p at e in let z : _≡_ {A = ℕ} 0 1 = cc in omega arith)
 line-sound l b t space true true p q e = absurd (let k : heard.Refused Space ≡ heard.Replies 1 = simp (p, q) at e in let z : _≡_ {A = ℕ} 0 1 = cc in omega arith)

@@ -11,7 +11,7 @@ use lib.Dec.{eqb}
 use lib.ListN.{length, take, drop}
 use lib.Seq.{take-at}
 use Rattle.wire.specs.declared.telegram.Telegram.{Telegram}
-use Rattle.wire.specs.Check.{soundOf}
+use Rattle.wire.specs.Check.{hitOf}
 use Rattle.wire.specs.Telegram.{fieldsOf, nineOf, bytesOf}
 use Rattle.wire.proofs.Laws.{word-bytes, built-sound}
 use Rattle.rows.specs.declared.access.Access.the-variants.{ReadWrite}
@@ -62,7 +62,7 @@ row-access r lt = sym (group-agrees (address (rowOf r)) (row-below r lt)) ∙ ap
 not-number : (a : ℕ) → accessOf a ≡ ReadWrite → eqb a 0x96 ≡ false
 not-number a e = ne-eqb a 0x96 (λ q. let z : _≡_ {A = ℕ} 0 1 = cc (number-access a (eq-eqb a 0x96 q)) in omega arith)
 
-read-obeyed : (t : Telegram) (s : Standing) → commandOf (t .command) ≡ Read → mineOf t s ≡ true → accessOf (t .parameter) ≡ ReadWrite → verdictOf true t s ≡ Obeyed
+read-obeyed : (t : Telegram) (s : Standing) → commandOf (t .command) ≡ Read → mineOf t s ≡ true → accessOf (t .parameter) ≡ ReadWrite → verdictOf 0 t s ≡ Obeyed
 unfolding verdictOf sumCheck nodeCheck lateOf hushOf commandCheck parameterCheck accessCheck lockCheck valueCheck numberCheck _else_
 read-obeyed t s c m a = rw (c, m, a, not-number (t .parameter) a, and-false)
 
@@ -79,7 +79,7 @@ module _ (h : Head) (f r v word data′ t : ℕ) (lt : r < 39) (force-is : h .st
   abbrev ten : List ℕ
   ten = sent f r word data′
 
-  read-verdict : verdictOf (soundOf ten) (fieldsOf ten) (standingOf h) ≡ Obeyed
+  read-verdict : verdictOf (hitOf ten) (fieldsOf ten) (standingOf h) ≡ Obeyed
   unfolding fieldsOf bytesOf standingOf commandOf
   read-verdict =
       rw (built-sound _) (read-obeyed (fieldsOf ten) (standingOf h) refl (eq-eqb f _ (sym force-is)) (row-access r lt))

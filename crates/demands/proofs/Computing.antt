@@ -1,6 +1,6 @@
 -- The definitions of a call's way through a line, a head and the account, opened together: under `unfolding computing` a closed term computes.
 -- Assumes nothing.
-use Rattle.wire.specs.Check.{soundOf}
+use Rattle.wire.specs.Check.{hitOf}
 use Rattle.wire.specs.Telegram.{fieldsOf, bytesOf}
 use Rattle.signed.specs.Number.{numberOf, wordOf, distanceOf}
 use Rattle.signed.specs.Rounding.{divisorOf, roundedOf}
@@ -35,5 +35,5 @@ use Rattle.demands.specs.Past.{delivered, mayAdd, grown, since, gather, 
 use Rattle.demands.specs.Run.{runs, after, askOf}
 
 unfoldable pub computing : Unit {0}
-unfolding soundOf fieldsOf bytesOf numberOf wordOf distanceOf divisorOf roundedOf heldOf differentialOf absoluteOf relativeOf rows rowOf placeOf accessOf broadcastOf otherOf kindOf busOf resetsOf fitsIn allRightOf isSignedOf readingOf unlistedOf betweenOf rangeIn otherRowOf rangeOf commandOf _else_ sumCheck nodeCheck commandCheck parameterCheck accessCheck lockableOf lockCheck rangeCheck valueCheck numberCheck hushOf lateOf verdictOf systemOf doneBy shownBy deedOf judgedOf emptyList rememberedOf entryOf positionOf actualOf shownOf viewOf aimOf aimBitsOf restBitsOf aimedOf statusOf withinOf differenceOf lockedOf restartedStored storedBy raisedOf countedOf complainedOf acknowledgedOf restartedFaults faultsBy restartedMeasurement measurementBy noTargets settledOf secondAimed targetsBy emptyEar stopped restartedOf deliveredOf freshOf inputOf readOf answerOf silence said errorReply valueReply replyOf elapsedOf keptEar gatheredOf standingOf restartsOf startedOf toldOf tellOf stepOf inReachOf storedFits faultsFit keptFits measurementFits earFits wellformedOf head.factoryOf head.nodeFits head.laidOn head.byteOf head.byteSpaceOf head.powerOf head.tickOf head.madeOf alone.called line.emptyOf line.fitsOf line.growOf line.byteOf line.byteSpaceOf line.measureOf line.keysOf line.powerOf line.namedOf line.placedOf head.measureOf head.keysOf pressedOf leftOf upOf keyedOf tickedOf measuredOf overdueOf movedOf calibratedOf switchedOf frozenOf releasedOf resetValue resetOf firstAimed clearedOf positionWord delivered mayAdd grown since gather kept earBy lockable accepted gives hearing change look next account runs after askOf
+unfolding hitOf fieldsOf bytesOf numberOf wordOf distanceOf divisorOf roundedOf heldOf differentialOf absoluteOf relativeOf rows rowOf placeOf accessOf broadcastOf otherOf kindOf busOf resetsOf fitsIn allRightOf isSignedOf readingOf unlistedOf betweenOf rangeIn otherRowOf rangeOf commandOf _else_ sumCheck nodeCheck commandCheck parameterCheck accessCheck lockableOf lockCheck rangeCheck valueCheck numberCheck hushOf lateOf verdictOf systemOf doneBy shownBy deedOf judgedOf emptyList rememberedOf entryOf positionOf actualOf shownOf viewOf aimOf aimBitsOf restBitsOf aimedOf statusOf withinOf differenceOf lockedOf restartedStored storedBy raisedOf countedOf complainedOf acknowledgedOf restartedFaults faultsBy restartedMeasurement measurementBy noTargets settledOf secondAimed targetsBy emptyEar stopped restartedOf deliveredOf freshOf inputOf readOf answerOf silence said errorReply valueReply replyOf elapsedOf keptEar gatheredOf standingOf restartsOf startedOf toldOf tellOf stepOf inReachOf storedFits faultsFit keptFits measurementFits earFits wellformedOf head.factoryOf head.nodeFits head.laidOn head.byteOf head.byteSpaceOf head.powerOf head.tickOf head.madeOf alone.called line.emptyOf line.fitsOf line.growOf line.byteOf line.byteSpaceOf line.measureOf line.keysOf line.powerOf line.namedOf line.placedOf head.measureOf head.keysOf head.lastHitOf line.lastHitOf line.tickOf pressedOf leftOf upOf keyedOf tickedOf measuredOf overdueOf movedOf calibratedOf switchedOf frozenOf releasedOf resetValue resetOf firstAimed clearedOf positionWord delivered mayAdd grown since gather kept earBy lockable accepted gives hearing change look next account runs after askOf
 computing = tt

@@ -16,7 +16,7 @@ use Rattle.demands.proofs.Answers.{gathers, obeys, answers, keeps-silen
 use Rattle.demands.proofs.Every.{every}
 use Rattle.demands.proofs.Bits.{bits}
 use Rattle.demands.proofs.Alone.{makes, powers, ticks, measures, presses}
-use Rattle.demands.proofs.Lines.{line-count, line-heads, line-counts, line-lays-not, line-silent, line-one, line-ticks, line-ticked, line-asks, line-grows}
+use Rattle.demands.proofs.Lines.{line-count, line-heads, line-counts, line-lays-not, line-silent, line-one, line-ticks, line-ticked, line-asks, line-grows, shows, line-shows}
 
 pub demand2 : Demand2 product
 demand2 =
@@ -36,6 +36,7 @@ demand2 =
       ticks = ticks;
       measures = measures;
       presses = presses;
+      shows = shows;
       remembers = remembers;
       line-hears = λ l b t space f r. (line-heads l b t space f r, line-count l b t space f r);
       line-silent = line-silent;
@@ -44,4 +45,5 @@ demand2 =
       line-ticks = λ l t f. (line-ticks l f t, line-ticked l f t .0, line-ticked l f t .1);
       line-asks = λ l i a f p. line-asks l f i a p;
       line-grows = λ l node f p. line-grows l f node p;
+      line-shows = λ l i f p. line-shows l f i p;
     }

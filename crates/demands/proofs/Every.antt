@@ -3,15 +3,17 @@
 use Prim.Native.Nat.{ℕ, _+_, _<_}
 use native.Mathlib.Omega.{arith}
 use mathlib.Core.Path.{_≡_, refl, sym, _∙_, ap}
-use mathlib.Core.Bool.{Bool, true, false, cond, not, true≢false}
+use mathlib.Core.Bool.{Bool, true, false, cond, not, _&&_, true≢false}
 use mathlib.Core.Logic.{_≢_, _⊎_, inl, inr}
 use mathlib.Core.List.{List, _++_}
+use borrow.Author.Tests.{ne-eqb}
 use lib.Dec.{eqb, ltb}
 use lib.ListN.{length, take, drop}
 use lib.Seq.{take-at}
 use Rattle.wire.specs.declared.telegram.Telegram.{Telegram}
 use Rattle.wire.specs.declared.fault.Fault.{Fault}
-use Rattle.wire.specs.Check.{soundOf}
+use Rattle.wire.specs.declared.fault.Fault.the-variants.{CheckSum}
+use Rattle.wire.specs.Check.{hitOf}
 use Rattle.wire.specs.Faults.{codeOf}
 use Rattle.wire.specs.Telegram.{fieldsOf, bytesOf}
 use Rattle.wire.proofs.Laws.{half-bytes}
@@ -28,29 +30,32 @@ use Rattle.judge.specs.declared.judged.Judged.{Judged}
 use Rattle.judge.specs.declared.verdict.Verdict.{Verdict}
 use Rattle.judge.specs.declared.verdict.Verdict.the-variants.{Obeyed, Silent, Refused}
 use Rattle.judge.specs.Commands.{commandOf}
+use Rattle.judge.specs.Checks.{_else_, sumCheck, nodeCheck}
 use Rattle.judge.specs.Deeds.{shownBy, doneBy, deedOf}
-use Rattle.judge.specs.Verdicts.{verdictOf}
+use Rattle.judge.specs.Verdicts.{lateOf, mineOf, verdictOf}
 use Rattle.judge.specs.Judged.{judgedOf}
-use Rattle.judge.proofs.Laws.{obeyed-sound}
+use Rattle.judge.proofs.Laws.{casts-is, obeyed-sound}
 use Rattle.state.specs.declared.parts.Head.{Head}
 use Rattle.state.specs.declared.parts.Stored as parts
 use Rattle.state.specs.declared.parts.Faults.{Faults}
+use Rattle.state.specs.Bits.{bitSet}
 use Rattle.state.specs.Errors.{rememberedOf}
 use Rattle.state.specs.Status.{statusOf}
 use Rattle.state.proofs.Laws.{status-fits}
 use Rattle.effects.specs.Stored.{storedBy}
-use Rattle.effects.specs.Faults.{withDamaged, raisedOf, countedOf, complainedOf}
+use Rattle.effects.specs.Faults.{withInputs, withPending, withDamaged, withHit, raisedOf, countedOf, complainedOf, acknowledgedOf, restartedFaults, faultsBy}
 use Rattle.effects.specs.Measured.{measurementBy, releasedOf}
 use Rattle.effects.specs.Aimed.{targetsBy, clearedOf}
+use Rattle.effects.specs.Restart.{restartedOf}
 use Rattle.reply.specs.declared.Said.{Said}
 use Rattle.reply.specs.Reply.{silence, said, errorReply, valueReply, replyBy, replyOf}
 use Rattle.reply.proofs.Replies.{reply-ten}
 use Rattle.head.specs.declared.calls.Heard.the-variants as heard
-use Rattle.head.specs.Hear.{gatheredOf, standingOf, restartsOf, startedOf, toldOf}
+use Rattle.head.specs.Hear.{gatheredOf, standingOf, restartsOf, startedOf, affectedOf, toldOf}
 use Rattle.head.proofs.Refused.{Unheeded, silent, refused, unheeded-only}
 use Rattle.demands.specs.Run.{product}
 use Rattle.demands.specs.Alone.{Taken}
-use Rattle.demands.specs.Every.{Copies, Polled, Damaged, Every}
+use Rattle.demands.specs.Every.{Copies, Polled, Damaged, mine, Every}
 use Rattle.demands.proofs.Sorts.{value-kind}
 use Rattle.demands.proofs.Answers.{obeys, answers, keeps-silent}
 
@@ -173,71 +178,185 @@ unfolding toldOf
 told-stays j h t n = let k = deed-stays (j .deed) (h .stored) n in rw (k .0) (k .1, k .2)
 
 -- ---- a telegram that is sound, or not; one that is refused
-told-starts : (ten : List ℕ) (h : Head) (t : ℕ) → soundOf ten ≡ true → judgedOf ten (standingOf h) .deed ≢ Restart
+told-starts : (ten : List ℕ) (h : Head) (t : ℕ) → hitOf ten ≡ 0 → judgedOf ten (standingOf h) .deed ≢ Restart
     → toldOf (judgedOf ten (standingOf h)) h t .monitor ≡ record { running = true; since = t }
 unfolding toldOf judgedOf startedOf
 told-starts ten h t s n = rw (deed-stays (judgedOf ten (standingOf h) .deed) (h .stored) n .0, s)
 
--- a damaged telegram is not obeyed
-damaged-unheeded : (ten : List ℕ) (h : Head) → soundOf ten ≡ false → Unheeded (judgedOf ten (standingOf h) .verdict)
-unfolding judgedOf
-damaged-unheeded ten h s = go (verdictOf (soundOf ten) (fieldsOf ten) (standingOf h)) refl
+-- no deed looks at what is kept of the last damaged telegram, or at the count of them, and none touches either
+abbrev pub marked : Faults → ℕ → ℕ → Faults
+marked f x n = record { memory = f .memory; inputs = f .inputs; pending = f .pending; hit = x; damaged = n }
+
+cleared : (b : Bool) (f : Faults) (x n : ℕ) → cond b (withPending (marked f x n) 0) (marked f x n) ≡ marked (cond b (withPending f 0) f) x n
+cleared true f x n = refl
+cleared false f x n = refl
+
+pub deed-apart : (d : Deed) (last : ℕ) (f : Faults) (x n : ℕ) → faultsBy d last (marked f x n) ≡ marked (faultsBy d last f) x n
+unfolding faultsBy acknowledgedOf
+deed-apart Nothing last f x n = refl
+deed-apart (Store i w) last f x n = refl
+deed-apart (Reset r) last f x n = refl
+deed-apart Restart last f x n = refl
+deed-apart Calibrate last f x n = refl
+deed-apart Forget last f x n = refl
+deed-apart (Unlock b) last f x n = refl
+deed-apart Freeze last f x n = refl
+deed-apart (Aim1 v w) last f x n = cleared (bitSet w 5 && not (bitSet last 5)) f x n
+deed-apart (Aim2 v w) last f x n = cleared (bitSet w 5 && not (bitSet last 5)) f x n
+deed-apart ClearStatic last f x n = refl
+deed-apart Release last f x n = refl
+
+pub deed-spares : (d : Deed) (last : ℕ) (f : Faults) → let g = faultsBy d last f in (g .hit ≡ f .hit) × (g .damaged ≡ f .damaged)
+deed-spares d last f =
+    let e = deed-apart d last f (f .hit) (f .damaged) in (ap (λ (g : Faults). g .hit) e, ap (λ (g : Faults). g .damaged) e)
+
+-- an error reply touches the input list alone
+complained-is : (v : Verdict) (f : Faults) → complainedOf v f ≡ withInputs f (complainedOf v f .inputs)
+unfolding complainedOf
+complained-is Obeyed f = refl
+complained-is Silent f = refl
+complained-is (Refused x) f = refl
+
+-- so both are after a telegram what counting it leaves, but for a restart
+pub told-marks : (j : Judged) (h : Head) (t : ℕ) → let f = toldOf j h t .faults in let g = countedOf (j .hit) (h .faults) in
+    (f .hit ≡ cond (restartsOf (j .deed)) 0 (g .hit)) × (f .damaged ≡ cond (restartsOf (j .deed)) 0 (g .damaged))
+unfolding toldOf restartedOf restartedFaults
+told-marks j h t = go (restartsOf (j .deed))
   where
-    go : (v : Verdict) → verdictOf (soundOf ten) (fieldsOf ten) (standingOf h) ≡ v → Unheeded v
-    go Obeyed e = absurd (true≢false (sym (obeyed-sound (soundOf ten) (fieldsOf ten) (standingOf h) e) ∙ s))
+    go : (b : Bool) → let f = cond b (restartedOf (affectedOf j h t)) (affectedOf j h t) .faults in let g = countedOf (j .hit) (h .faults) in
+        (f .hit ≡ cond b 0 (g .hit)) × (f .damaged ≡ cond b 0 (g .damaged))
+    go true = (refl, refl)
+    go false =
+        let d = deed-spares (j .deed) (h .targets .word) (complainedOf (j .verdict) (countedOf (j .hit) (h .faults))) in
+        let c = complained-is (j .verdict) (countedOf (j .hit) (h .faults)) in
+        (d .0 ∙ ap (λ (f : Faults). f .hit) c, d .1 ∙ ap (λ (f : Faults). f .damaged) c)
+
+told-spares : (ten : List ℕ) (h : Head) (t : ℕ) → let j = judgedOf ten (standingOf h) in
+    hitOf ten ≡ 0 → j .deed ≢ Restart → (toldOf j h t .faults .hit ≡ h .faults .hit) × (toldOf j h t .faults .damaged ≡ 0)
+unfolding judgedOf countedOf
+told-spares ten h t s n =
+    let j = judgedOf ten (standingOf h) in
+    let stays = deed-stays (j .deed) (h .stored) n .0 in
+    let m = told-marks j h t in
+    (m .0 ∙ rw (stays, s), m .1 ∙ rw (stays, s))
+
+-- a damaged telegram is not obeyed
+damaged-unheeded : (ten : List ℕ) (h : Head) → hitOf ten ≢ 0 → Unheeded (judgedOf ten (standingOf h) .verdict)
+unfolding judgedOf
+damaged-unheeded ten h s = go (verdictOf (hitOf ten) (fieldsOf ten) (standingOf h)) refl
+  where
+    go : (v : Verdict) → verdictOf (hitOf ten) (fieldsOf ten) (standingOf h) ≡ v → Unheeded v
+    go Obeyed e = absurd (s (obeyed-sound (hitOf ten) (fieldsOf ten) (standingOf h) e))
     go Silent e = silent
     go (Refused f) e = refused
 
--- what is counted of a damaged one, refused or not; and that counting leaves the input list
-counted-damaged : (v : Verdict) (f : Faults)
-    → let g = complainedOf v (countedOf false f) in
-    (g .damaged ≡ cond (not (ltb (f .damaged) 2)) 0 (f .damaged + 1))
+-- what is kept and counted of a damaged one; and that counting leaves the input list
+pub counted-damaged : (f : Faults) (x : ℕ) → x ≢ 0
+    → let g = countedOf x f in
+    (g .hit ≡ x)
+    × (g .damaged ≡ cond (not (ltb (f .damaged) 2)) 0 (f .damaged + 1))
     × (g .pending ≡ cond (not (ltb (f .damaged) 2)) 0x0080 (f .pending))
     × (g .memory ≡ cond (not (ltb (f .damaged) 2)) (rememberedOf (f .memory) 0x0080) (f .memory))
-unfolding complainedOf countedOf raisedOf
-counted-damaged v f = go v (ltb (f .damaged) 2)
+unfolding countedOf raisedOf
+counted-damaged f x n = rw (ne-eqb x 0 n) (go (ltb (f .damaged) 2))
   where
-    go : (v : Verdict) (few : Bool)
-        → let g = complainedOf v (cond few (withDamaged f (f .damaged + 1)) (raisedOf (withDamaged f 0) 0x0080)) in
-        (g .damaged ≡ cond (not few) 0 (f .damaged + 1))
+    go : (few : Bool)
+        → let k = withHit f x in
+        let g = cond few (withDamaged k (f .damaged + 1)) (raisedOf (withDamaged k 0) 0x0080) in
+        (g .hit ≡ x)
+        × (g .damaged ≡ cond (not few) 0 (f .damaged + 1))
         × (g .pending ≡ cond (not few) 0x0080 (f .pending))
         × (g .memory ≡ cond (not few) (rememberedOf (f .memory) 0x0080) (f .memory))
-    go Obeyed true = (refl, refl, refl)
-    go Obeyed false = (refl, refl, refl)
-    go Silent true = (refl, refl, refl)
-    go Silent false = (refl, refl, refl)
-    go (Refused x) true = (refl, refl, refl)
-    go (Refused x) false = (refl, refl, refl)
+    go true = (refl, refl, refl, refl)
+    go false = (refl, refl, refl, refl)
 
-counted-inputs : (sound : Bool) (f : Faults) → countedOf sound f .inputs ≡ f .inputs
+counted-inputs : (x : ℕ) (f : Faults) → countedOf x f .inputs ≡ f .inputs
 unfolding countedOf raisedOf
-counted-inputs true f = refl
-counted-inputs false f = either (λ (g : Faults). g .inputs ≡ f .inputs) (ltb (f .damaged) 2) refl refl
+counted-inputs x f =
+    either (λ (g : Faults). g .inputs ≡ f .inputs) (eqb x 0) refl (either (λ (g : Faults). g .inputs ≡ f .inputs) (ltb (f .damaged) 2) refl refl)
 
 -- the errors after a telegram that is not obeyed
 unheeded-faults : (ten : List ℕ) (h : Head) (t : ℕ) → let j = judgedOf ten (standingOf h) in
-    Unheeded (j .verdict) → toldOf j h t .faults ≡ complainedOf (j .verdict) (countedOf (j .sound) (h .faults))
+    Unheeded (j .verdict) → toldOf j h t .faults ≡ complainedOf (j .verdict) (countedOf (j .hit) (h .faults))
 unheeded-faults ten h t u = ap (λ (x : Head). x .faults) (unheeded-only h ten t u)
 
-told-counts : (ten : List ℕ) (h : Head) (t : ℕ) → soundOf ten ≡ false → Damaged h (toldOf (judgedOf ten (standingOf h)) h t)
-unfolding judgedOf
+told-counts : (ten : List ℕ) (h : Head) (t : ℕ) → hitOf ten ≢ 0 → Damaged h (toldOf (judgedOf ten (standingOf h)) h t) (hitOf ten)
+unfolding judgedOf startedOf
 told-counts ten h t s =
     let j = judgedOf ten (standingOf h) in
-    let e : toldOf j h t .faults ≡ complainedOf (j .verdict) (countedOf false (h .faults)) =
-    unheeded-faults ten h t (damaged-unheeded ten h s) ∙ rw s in
-    let d = counted-damaged (j .verdict) (h .faults) in
+    let e = unheeded-faults ten h t (damaged-unheeded ten h s) ∙ complained-is (j .verdict) (countedOf (hitOf ten) (h .faults)) in
+    let only = unheeded-only h ten t (damaged-unheeded ten h s) in
+    let d = counted-damaged (h .faults) (hitOf ten) s in
     record {
-      damaged = ap (λ (f : Faults). f .damaged) e ∙ d .0;
-      pending = ap (λ (f : Faults). f .pending) e ∙ d .1;
-      memory = ap (λ (f : Faults). f .memory) e ∙ d .2;
+      hit = ap (λ (f : Faults). f .hit) e ∙ d .0;
+      damaged = ap (λ (f : Faults). f .damaged) e ∙ d .1;
+      pending = ap (λ (f : Faults). f .pending) e ∙ d .2;
+      memory = ap (λ (f : Faults). f .memory) e ∙ d .3;
+      monitor = ap (λ (x : Head). x .monitor) only ∙ rw (ne-eqb (hitOf ten) 0 s);
+      stored = ap (λ (x : Head). x .stored) only;
+      measurement = ap (λ (x : Head). x .measurement) only;
+      targets = ap (λ (x : Head). x .targets) only;
+      keys = ap (λ (x : Head). x .keys) only;
     }
+
+-- what a damaged telegram is judged
+damaged-verdict : (ten : List ℕ) (h : Head) → hitOf ten ≢ 0
+    → judgedOf ten (standingOf h) .verdict ≡ cond (mine (fieldsOf ten) h) (Refused CheckSum) Silent
+unfolding judgedOf verdictOf sumCheck standingOf _else_
+damaged-verdict ten h n =
+    rw (ne-eqb (hitOf ten) 0 n, casts-is (fieldsOf ten .command))
+    (elim (mine (fieldsOf ten) h) as (λ b. (cond b (Refused CheckSum) Silent) else rest ≡ cond b (Refused CheckSum) Silent) [ true ↦ refl | false ↦ refl ])
+  where
+    rest : Verdict
+    rest = nodeCheck (commandOf (fieldsOf ten .command)) (mineOf (fieldsOf ten) (standingOf h)) else lateOf (fieldsOf ten) (standingOf h)
+
+refuses : (h : Head) (b t : ℕ) (space : List ℕ) → Taken h space → gatheredOf (h .ear) b t .whole ≡ true
+    → hitOf (gatheredOf (h .ear) b t .ten) ≢ 0
+    → let own = mine (fieldsOf (gatheredOf (h .ear) b t .ten)) h in
+    let x = fieldsOf (take 10 (product .onHead .space h b t space)) in
+    (product .onHead .byte h b t (length space) .heard ≡ heard.Replies (cond own 1 0))
+    × (own ≡ true → (x .parameter ≡ 0xFD) × (x .value ≡ 0x0080))
+    × (product .onHead .byte h b t (length space) .head .faults .inputs ≡ cond own (rememberedOf (h .faults .inputs) 0x0080) (h .faults .inputs))
+unfolding replyOf errorReply said silence fieldsOf bytesOf complainedOf
+refuses h b t space k e n = go (mine (fieldsOf ten) h) refl
+  where
+    ten : List ℕ
+    ten = gatheredOf (h .ear) b t .ten
+
+    j : Judged
+    j = judging h b t
+
+    inputs : (v : Verdict) → j .verdict ≡ v
+        → product .onHead .byte h b t (length space) .head .faults .inputs ≡ complainedOf v (countedOf (j .hit) (h .faults)) .inputs
+    inputs v p =
+        ap (λ (x : Head). x .faults .inputs) (obeys h b t space k e)
+        ∙ ap (λ (f : Faults). f .inputs) (unheeded-faults ten h t (damaged-unheeded ten h n)) ∙ rw p
+
+    judged : (own : Bool) → mine (fieldsOf ten) h ≡ own → j .verdict ≡ cond own (Refused CheckSum) Silent
+    judged own p = rw p at (damaged-verdict ten h n)
+
+    go : (own : Bool) → mine (fieldsOf ten) h ≡ own
+        → let x = fieldsOf (take 10 (product .onHead .space h b t space)) in
+        (product .onHead .byte h b t (length space) .heard ≡ heard.Replies (cond (mine (fieldsOf ten) h) 1 0))
+        × (mine (fieldsOf ten) h ≡ true → (x .parameter ≡ 0xFD) × (x .value ≡ 0x0080))
+        × (product .onHead .byte h b t (length space) .head .faults .inputs
+        ≡ cond (mine (fieldsOf ten) h) (rememberedOf (h .faults .inputs) 0x0080) (h .faults .inputs))
+    go true p =
+        let v : j .verdict ≡ Refused CheckSum = judged true p in
+        let a = answers h b t space k e (rw v) in
+        let r : take 10 (product .onHead .space h b t space) ≡ replyOf j h (statusOf h) .reply =
+        rw (a .1) (take-at (replyOf j h (statusOf h) .reply) (drop 10 space) 10 (reply-ten j h (statusOf h))) in
+        rw (p, r, v) (a .0, λ _. (refl, refl), inputs (Refused CheckSum) v ∙ rw (counted-inputs (j .hit) (h .faults)))
+    go false p =
+        let v : j .verdict ≡ Silent = judged false p in
+        rw p (keeps-silent h b t space k e (rw v) .0, λ q. absurd (true≢false (sym q)), inputs Silent v ∙ counted-inputs (j .hit) (h .faults))
 
 told-complains : (ten : List ℕ) (h : Head) (t : ℕ) (f : Fault) → let j = judgedOf ten (standingOf h) in
     j .verdict ≡ Refused f → toldOf j h t .faults .inputs ≡ rememberedOf (h .faults .inputs) (codeOf f)
 unfolding complainedOf
 told-complains ten h t f e =
     let j = judgedOf ten (standingOf h) in
-    ap (λ (g : Faults). g .inputs) (unheeded-faults ten h t (rw e refused)) ∙ rw (e, counted-inputs (j .sound) (h .faults))
+    ap (λ (g : Faults). g .inputs) (unheeded-faults ten h t (rw e refused)) ∙ rw (e, counted-inputs (j .hit) (h .faults))
 
 pub every : Every product
 every =
@@ -248,7 +367,9 @@ every =
       sets = λ h b t space k e c r lt p.
           rw (obeys h b t space k e) (setting-keeps _ h t (write-sets (gatheredOf (h .ear) b t .ten) h r lt c p));
       starts = λ h b t space k e s n. rw (obeys h b t space k e) (told-starts (gatheredOf (h .ear) b t .ten) h t s n);
+      spares = λ h b t space k e s n. rw (obeys h b t space k e) (told-spares (gatheredOf (h .ear) b t .ten) h t s n);
       counts = λ h b t space k e s. rw (obeys h b t space k e) (told-counts (gatheredOf (h .ear) b t .ten) h t s);
+      refuses = refuses;
       complains = λ h b t space k e f v. rw (obeys h b t space k e) (told-complains (gatheredOf (h .ear) b t .ten) h t f v);
       in-force = λ h b t space k e n. rw (obeys h b t space k e) (told-stays _ h t n);
     }

@@ -19,11 +19,14 @@ pub mod Range
 pub mod One
 pub mod Whole
 pub mod Back
+pub mod Hits
+pub mod Unseen
 pub mod Proved
 pub mod Ordered
 pub mod Proposed
 pub mod Lived
 pub mod Echo
 pub mod Wrongs
+pub mod WrongHits
 pub mod Real
 pub mod Outcomes

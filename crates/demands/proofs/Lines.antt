@@ -15,13 +15,14 @@ use Rattle.state.specs.Wellformed.{wellformedOf}
 use Rattle.effects.specs.Restart.{freshOf}
 use Rattle.head.specs.declared.calls.Heard.the-variants as heard
 use Rattle.head.specs.declared.calls.Answer.the-variants as answer
+use Rattle.head.specs.declared.calls.Hit.the-variants.{Bits}
 use Rattle.head.specs.Hear.{stepOf}
 use Rattle.head.specs.Calls as head
 use Rattle.head.specs.Calls.{factoryOf, nodeFits, madeOf}
 use Rattle.head.specs.Outcome.{tick, called}
 use Rattle.line.specs.declared.calls.Line.{Line}
 use Rattle.line.specs.Round.{allFit, saidBy, repliesOf}
-use Rattle.line.specs.Calls.{headAt, repliesAt, growOf, byteOf, byteSpaceOf, tickOf}
+use Rattle.line.specs.Calls.{headAt, repliesAt, growOf, byteOf, byteSpaceOf, tickOf, lastHitOf}
 use Rattle.line.proofs.Laws.{one-replies, not-one, fits-small, fits-heads}
 use Rattle.line.proofs.Theorems.{byte-alone, byte-counts, byte-lays, tick-alone, named-there, named-one, well-at}
 use Rattle.demands.specs.Calls.{Ask}
@@ -115,6 +116,10 @@ module _ (l : Line) (b t : ℕ) (space : List ℕ) (f : Fits l) (room : 10 ≤ l
         )
 
 -- ---- the other calls
+pub shows : (h : Head) → wellformedOf h ≡ true → head.lastHitOf h ≡ Bits (h .faults .hit)
+unfolding head.lastHitOf
+shows h w = rw w
+
 module _ (l : Line) (f : Fits l) where
   pub line-ticks : (t k : ℕ) → k < l .count → headAt (tickOf l t .line) k ≡ called (tick t) (headAt l k) .head
   unfolding called head.tickOf
@@ -131,6 +136,10 @@ module _ (l : Line) (f : Fits l) where
       let t = named-there l (f .fits) (f .places) i p c in
       let o = named-one l i c in
       rw (ask-is a l i) record { answer = t .0; there = t .1; others = o .1; count = o .0 }
+
+  pub line-shows : (i : ℕ) → i < l .count → lastHitOf l i ≡ head.lastHitOf (headAt l i)
+  unfolding lastHitOf
+  line-shows i p = rw (f .fits, lt-ltb i (l .count) p)
 
   pub line-grows : (node : ℕ) → l .count < 8 → Grown l (growOf l node) (madeOf node)
   unfolding growOf madeOf

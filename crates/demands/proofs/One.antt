@@ -13,17 +13,16 @@ use lib.Dec.{leb, ltb, eqb}
 use lib.ListN.{length, getD, length-append}
 use lib.Seq.{drop-append-seam}
 use Rattle.wire.specs.declared.fault.Fault.{Fault}
-use Rattle.wire.specs.Check.{soundOf}
+use Rattle.wire.specs.Check.{hitOf}
 use Rattle.wire.specs.Telegram.{fieldsOf}
 use Rattle.rows.proofs.Groups.{less-or-not}
-use Rattle.judge.specs.declared.command.Command.the-variants.{Read, Write, Broadcast, Other}
 use Rattle.judge.specs.declared.verdict.Verdict.{Verdict}
 use Rattle.judge.specs.declared.verdict.Verdict.the-variants.{Obeyed, Silent, Refused}
 use Rattle.judge.specs.Commands.{commandOf, castsOf}
 use Rattle.judge.specs.Verdicts.{verdictOf}
 use Rattle.judge.specs.Deeds.{deedOf}
 use Rattle.judge.specs.Judged.{judgedOf}
-use Rattle.judge.proofs.Laws.{refused-mine, obeyed-mine, obeyed-sound}
+use Rattle.judge.proofs.Laws.{refused-mine, casts-is, obeyed-mine, obeyed-sound}
 use Rattle.state.specs.declared.parts.Head.{Head}
 use Rattle.state.specs.declared.parts.Stored.{Stored}
 use Rattle.state.specs.Status.{statusOf}
@@ -170,22 +169,11 @@ one-quiet cs b t i j ne =
     go p q true true e f =
         absurd (ne (sym (eqb-true _ _ e) ∙ ap (λ (l : List ℕ). fieldsOf l .node) (same-telegram cs b t i j p q) ∙ eqb-true _ _ f))
 
--- the command byte of a broadcast is 2
-cast-two : (c : ℕ) → castsOf (commandOf c) ≡ true → c ≡ 2
-unfolding commandOf
-cast-two c = go (eqb c 0) (eqb c 1) (eqb c 2) refl
-  where
-    go : (x y z : Bool) → eqb c 2 ≡ z → castsOf (cond x Read (cond y Write (cond z Broadcast Other))) ≡ true → c ≡ 2
-    go true y z p e = cc
-    go false true z p e = cc
-    go false false true p e = eqb-true c 2 p
-    go false false false p e = cc
-
 -- ---- a telegram whose node byte is not the number in force
 module _ (h : Head) (ten : List ℕ) (t : ℕ) (other : eqb (fieldsOf ten .node) (h .stored .number) ≡ false) where
   -- it is silent, or obeyed as a broadcast
-  passed : (verdictOf (soundOf ten) (fieldsOf ten) (standingOf h) ≡ Silent)
-      ⊎ ((verdictOf (soundOf ten) (fieldsOf ten) (standingOf h) ≡ Obeyed) × (castsOf (commandOf (fieldsOf ten .command)) ≡ true))
+  passed : (verdictOf (hitOf ten) (fieldsOf ten) (standingOf h) ≡ Silent)
+      ⊎ ((verdictOf (hitOf ten) (fieldsOf ten) (standingOf h) ≡ Obeyed) × (castsOf (commandOf (fieldsOf ten .command)) ≡ true))
   unfolding standingOf
   passed = go _ refl
     where
@@ -193,9 +181,9 @@ module _ (h : Head) (ten : List ℕ) (t : ℕ) (other : eqb (fieldsOf ten .node)
       cast true e = refl
       cast false e = absurd (true≢false (sym e ∙ other))
 
-      go : (v : Verdict) → verdictOf (soundOf ten) (fieldsOf ten) (standingOf h) ≡ v
-          → (verdictOf (soundOf ten) (fieldsOf ten) (standingOf h) ≡ Silent)
-          ⊎ ((verdictOf (soundOf ten) (fieldsOf ten) (standingOf h) ≡ Obeyed) × (castsOf (commandOf (fieldsOf ten .command)) ≡ true))
+      go : (v : Verdict) → verdictOf (hitOf ten) (fieldsOf ten) (standingOf h) ≡ v
+          → (verdictOf (hitOf ten) (fieldsOf ten) (standingOf h) ≡ Silent)
+          ⊎ ((verdictOf (hitOf ten) (fieldsOf ten) (standingOf h) ≡ Obeyed) × (castsOf (commandOf (fieldsOf ten .command)) ≡ true))
       go Silent e = inl e
       go Obeyed e = inr (e, cast _ (obeyed-mine _ (fieldsOf ten) (standingOf h) e))
       go (Refused f) e = absurd (true≢false (sym (refused-mine _ (fieldsOf ten) (standingOf h) e) ∙ other))
@@ -212,9 +200,9 @@ module _ (h : Head) (ten : List ℕ) (t : ℕ) (other : eqb (fieldsOf ten .node)
       never q = let z : _≡_ {A = ℕ} 0 1 = cc in omega arith
 
   -- and but for a sound broadcast stores nothing
-  told-still : (soundOf ten ≡ true → fieldsOf ten .command ≢ 2) → tellOf h ten t .head .stored ≡ h .stored
+  told-still : (hitOf ten ≡ 0 → fieldsOf ten .command ≢ 2) → tellOf h ten t .head .stored ≡ h .stored
   unfolding tellOf toldOf judgedOf deedOf storedBy restartsOf
-  told-still ne = ⊎-elim (λ e. rw e) (λ e. absurd (ne (obeyed-sound _ (fieldsOf ten) (standingOf h) (e .0)) (cast-two _ (e .1)))) passed
+  told-still ne = ⊎-elim (λ e. rw e) (λ e. absurd (ne (obeyed-sound _ (fieldsOf ten) (standingOf h) (e .0)) (eqb-true _ 2 (sym (casts-is _) ∙ e .1)))) passed
 
 -- ---- a head that is not spoken to by a byte
 module _ (h : Head) (g : Ear) (b t : ℕ) (e : Gathered h g) where
@@ -225,7 +213,7 @@ module _ (h : Head) (g : Ear) (b t : ℕ) (e : Gathered h g) where
       (λ ten. rw (ear-whole h g b t e (ten .0)) (told-mute h (gather g b t) t (ten .1)))
       q
 
-  step-still : Quiet (gather g b t) (h .stored .number) → (10 ≤ length (gather g b t) → soundOf (gather g b t) ≡ true → fieldsOf (gather g b t) .command ≢ 2)
+  step-still : Quiet (gather g b t) (h .stored .number) → (10 ≤ length (gather g b t) → hitOf (gather g b t) ≡ 0 → fieldsOf (gather g b t) .command ≢ 2)
       → stepOf h b t .head .stored ≡ h .stored
   unfolding Quiet
   step-still q ne =
@@ -241,7 +229,7 @@ module _ (cs : Calls) (b t k : ℕ) (lt : k < count cs) (q : Quiet (gatheredWith
   at-mute : stepOf (headIn cs k) b t .replied ≡ false
   at-mute = step-mute (headIn cs k) (entry cs k .ear) b t (sim cs k lt .ear-is) quiet-here
 
-  at-still : (10 ≤ length (gatheredWith cs b t k) → soundOf (gatheredWith cs b t k) ≡ true → fieldsOf (gatheredWith cs b t k) .command ≢ 2) → stepOf (headIn cs k) b t .head .stored ≡ headIn cs k .stored
+  at-still : (10 ≤ length (gatheredWith cs b t k) → hitOf (gatheredWith cs b t k) ≡ 0 → fieldsOf (gatheredWith cs b t k) .command ≢ 2) → stepOf (headIn cs k) b t .head .stored ≡ headIn cs k .stored
   at-still ne = step-still (headIn cs k) (entry cs k .ear) b t (sim cs k lt .ear-is) quiet-here ne
 
 module _ (d : Head) (b t : ℕ) where

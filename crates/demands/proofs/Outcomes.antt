@@ -6,8 +6,7 @@ use Rattle.demands.specs.Outcomes.{Outcomes}
 pub outcomes : Outcomes
 outcomes =
     record {
-      wire-check-exclusive-or = λ κs a y z u v p q. (p ∙ sym q, refl);
-      wire-check-sound = λ κs a y z u v p q. (p ∙ sym q, refl);
+      wire-check-hit = λ κs a y z u v p q. (p ∙ sym q, refl);
       wire-fault-code = λ κs a y z u v p q. (p ∙ sym q, refl);
       wire-telegram-fields = λ κs a y z u v p q. (p ∙ sym q, refl);
       wire-telegram-bytes = λ κs a y z u v p q. (p ∙ sym q, refl);
@@ -89,6 +88,7 @@ outcomes =
       head-calls-measure = λ κs a y z u v p q. (p ∙ sym q, refl);
       head-calls-keys = λ κs a y z u v p q. (p ∙ sym q, refl);
       head-calls-power = λ κs a y z u v p q. (p ∙ sym q, refl);
+      head-calls-last-hit = λ κs a y z u v p q. (p ∙ sym q, refl);
       head-calls-number-in-force = λ κs a y z u v p q. (p ∙ sym q, refl);
       head-calls-baud-in-force = λ κs a y z u v p q. (p ∙ sym q, refl);
       head-hear-elapsed = λ κs a y z u v p q. (p ∙ sym q, refl);
@@ -110,6 +110,7 @@ outcomes =
       line-calls-measure = λ κs a y z u v p q. (p ∙ sym q, refl);
       line-calls-keys = λ κs a y z u v p q. (p ∙ sym q, refl);
       line-calls-power = λ κs a y z u v p q. (p ∙ sym q, refl);
+      line-calls-last-hit = λ κs a y z u v p q. (p ∙ sym q, refl);
       order-form-answer-number = λ κs a y z u v p q. (p ∙ sym q, refl);
       order-form-form-blank = λ κs a y z u v p q. (p ∙ sym q, refl);
       order-form-form-add = λ κs a y z u v p q. (p ∙ sym q, refl);

@@ -27,6 +27,7 @@ real =
       power = λ κs a y u p. p;
       number-in-force = λ κs a y u p. p;
       baud-in-force = λ κs a y u p. p;
+      last-hit = λ κs a y u p. p;
       number = λ κs a y u p. p;
       empty = λ κs a y u p. p;
       count = λ κs a y u p. p;
@@ -36,6 +37,7 @@ real =
       line-measure = λ κs a y u p. p;
       line-keys = λ κs a y u p. p;
       line-power = λ κs a y u p. p;
+      line-last-hit = λ κs a y u p. p;
     }
 
 pub real-form : RealForm answerOf

@@ -30,11 +30,11 @@ use Rattle.head.proofs.Asked.{called-same, called-refusal}
 use Rattle.head.proofs.Refused.{refused-nothing}
 use Rattle.line.specs.declared.calls.Line.{Line}
 use Rattle.line.specs.declared.calls.Called.{Called}
-use Rattle.line.specs.Calls.{fitsOf, headAt, growOf, byteOf, byteSpaceOf, tickOf, namedOf}
+use Rattle.line.specs.Calls.{fitsOf, headAt, growOf, byteOf, byteSpaceOf, tickOf, namedOf, lastHitOf}
 use Rattle.line.proofs.Theorems.{grow-refused, tick-refused, named-refused, byte-refused, well-at}
 use Rattle.demands.specs.Calls.{Ask, Call, newHead, byte, tick, named}
 use Rattle.demands.specs.Run.{product, aloneOf, after}
-use Rattle.demands.specs.Demand1.{Row, row, first, ownRows, nodeRow, rowsFor, rowsAlone, numbered, ofAnswer, ofHeard, refusedAs, refusedAlone, headAfter, spaceAfter, Numbered, Demand1}
+use Rattle.demands.specs.Demand1.{Row, row, first, ownRows, nodeRow, namedRows, headRows, rowsFor, rowsAlone, numbered, ofAnswer, ofHeard, ofHit, refusedAs, refusedAlone, headAfter, spaceAfter, Numbered, Demand1}
 use Rattle.demands.proofs.Named.{ask-is}
 use Rattle.demands.proofs.Twenty.{twenty}
 
@@ -83,6 +83,11 @@ module _ (h : Head) where
   head-number (alone.asked a) =
       ap numbered (called-refusal a h) ∙ failed-first ((wellformedOf h, Malformed) ∷ alone.own a) ∙ rw (own-rows a)
 
+  head-hit : (w : Bool) → wellformedOf h ≡ w → ofHit (head.lastHitOf h) ≡ first (headRows h [])
+  unfolding head.lastHitOf
+  head-hit true p = simp p
+  head-hit false p = simp p
+
 module _ (l : Line) where
   grow-number : (node : ℕ) (f c n : Bool) → fitsOf l ≡ f → ltb (l .count) 8 ≡ c → (leb 1 node && leb node 127) ≡ n
       → refusedAs (product .onLine) (newHead node) l ≡ first (rowsFor (newHead node) l)
@@ -112,6 +117,13 @@ module _ (l : Line) where
   named-number j a true false p q = simp (p, flip j (l .count), q)
   named-number j a true true p q =
       let w = well-at l p j (ltb-true _ _ q) in simp (p, flip j (l .count), q) (simp w at (head-number (headAt l j) (alone.asked (aloneOf a))))
+
+  line-hit : (j : ℕ) (f i : Bool) → fitsOf l ≡ f → ltb j (l .count) ≡ i → ofHit (lastHitOf l j) ≡ first (namedRows l j [])
+  unfolding lastHitOf
+  line-hit j false i p q = simp p
+  line-hit j true false p q = simp (p, flip j (l .count), q)
+  line-hit j true true p q =
+      let w = well-at l p j (ltb-true _ _ q) in simp (p, flip j (l .count), q) (simp w at (head-hit (headAt l j) true w))
 
   line-number : (c : Call) → refusedAs (product .onLine) c l ≡ first (rowsFor c l)
   line-number (newHead node) = grow-number node (fitsOf l) (ltb (l .count) 8) (leb 1 node && leb node 127) refl refl refl
@@ -184,6 +196,8 @@ demand1 =
       line-number = λ c l. line-number l c;
       head-number = λ c h. head-number h c;
       twenty = twenty;
+      line-hit = λ l j. line-hit l j (fitsOf l) (ltb j (l .count)) refl refl;
+      head-hit = λ h. head-hit h (wellformedOf h) refl;
       made-number = λ node. made-number node (leb 1 node && leb node 127) refl;
       made-head = λ node. made-head node (nodeFits node) refl;
       made-factory = λ node n. made-factory node n (nodeFits node) refl;

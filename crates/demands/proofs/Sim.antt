@@ -177,12 +177,12 @@ module _ (h : Head) (e : Entry) (A : Is h e) where
       (record { few = omega arith; long = refl; got-is = refl; time-is = inl refl })
 
   -- what the checks ask of the head is what the account has
-  locked-is : standingOf h .locked ≡ locked e
+  pub locked-is : standingOf h .locked ≡ locked e
   unfolding standingOf lockedOf
   locked-is =
       ap (λ (x : ℕ). eqb x 1 && not (h .stored .unlocked)) (A .vals-are 14 (omega arith)) ∙ ap (λ (x : Bool). eqb (e .value 14) 1 && not x) (A .open-is)
 
-  number-is : standingOf h .number ≡ e .number
+  pub number-is : standingOf h .number ≡ e .number
   unfolding standingOf
   number-is = A .force-is
 
@@ -229,7 +229,7 @@ module _ (h : Head) (e : Entry) (A : Is h e) where
 
 -- ---- for every list of calls
 module _ (cs : Calls) (c : Call) (k : ℕ) (lt : k < grown c (count cs)) where
-  seen : headIn (cs ▸ c) k ≡ headBy c (count cs) k (headIn cs k)
+  pub seen : headIn (cs ▸ c) k ≡ headBy c (count cs) k (headIn cs k)
   unfolding runs
   seen =
       let b = fits cs in
@@ -252,20 +252,30 @@ sim-new cs node k lt e =
     go true q = made-is node (entry cs k .ear) (entry cs k)
     go false q = absurd (false≢true q)
 
-old-or-new : (cs : Calls) (c : Call) (k : ℕ) → k < grown c (count cs) → (k < count cs → Is (headIn cs k) (entry cs k)) → Is (headIn (cs ▸ c) k) (entry (cs ▸ c) k)
+-- a head that is there after a call was there before it, or is the one that the call makes
+old-or-new : (cs : Calls) (c : Call) (k : ℕ) (Q : Type 0) → k < grown c (count cs) → (k < count cs → Q)
+    → ((node : ℕ) → c ≡ newHead node → makes (count cs) node k ≡ true → Q) → Q
 unfolding grown
-old-or-new cs (newHead node) k lt A = go (mayAdd (count cs) node) refl (eqb k (count cs)) refl lt
+old-or-new cs (newHead node) k Q lt old new = go (mayAdd (count cs) node) refl (eqb k (count cs)) refl lt
   where
-    go : (b : Bool) → mayAdd (count cs) node ≡ b → (e : Bool) → eqb k (count cs) ≡ e → k < cond b (suc (count cs)) (count cs)
-        → Is (headIn (cs ▸ newHead node) k) (entry (cs ▸ newHead node) k)
-    go false p e q below = sim-old cs (newHead node) k lt (A below)
-    go true p true q below = sim-new cs node k lt (rw (p, q))
-    go true p false q below = let ne = eqb-false k (count cs) q in sim-old cs (newHead node) k lt (A (omega arith))
-old-or-new cs (byte b t s) k lt A = sim-old cs (byte b t s) k lt (A lt)
-old-or-new cs (tick t) k lt A = sim-old cs (tick t) k lt (A lt)
-old-or-new cs (named j a) k lt A = sim-old cs (named j a) k lt (A lt)
+    go : (b : Bool) → mayAdd (count cs) node ≡ b → (e : Bool) → eqb k (count cs) ≡ e → k < cond b (suc (count cs)) (count cs) → Q
+    go false p e q below = old below
+    go true p true q below = new node refl (rw (p, q))
+    go true p false q below = let ne = eqb-false k (count cs) q in old (omega arith)
+old-or-new cs (byte b t s) k Q lt old new = old lt
+old-or-new cs (tick t) k Q lt old new = old lt
+old-or-new cs (named j a) k Q lt old new = old lt
+
+-- so what holds of a head when it is made, and after each call if it held before, holds of every head
+pub of-heads : (P : Calls → ℕ → Type 0)
+    → ((cs : Calls) (c : Call) (k : ℕ) → k < grown c (count cs) → k < count cs → P cs k → P (cs ▸ c) k)
+    → ((cs : Calls) (node k : ℕ) → k < grown (newHead node) (count cs) → makes (count cs) node k ≡ true → P (cs ▸ newHead node) k)
+    → (cs : Calls) (k : ℕ) → k < count cs → P cs k
+unfolding account
+of-heads P old new start k lt = absurd (not-suc-le-zero lt)
+of-heads P old new (cs ▸ c) k lt =
+    old-or-new cs c k (P (cs ▸ c) k) lt (λ p. old cs c k lt p (of-heads P old new cs k p))
+    (λ node e m. rw e (new cs node k (rw e at lt) m))
 
 pub sim : (cs : Calls) (k : ℕ) → k < count cs → Is (headIn cs k) (entry cs k)
-unfolding account
-sim start k lt = absurd (not-suc-le-zero lt)
-sim (cs ▸ c) k lt = old-or-new cs c k lt (λ old. sim cs k old)
+sim = of-heads (λ cs k. Is (headIn cs k) (entry cs k)) (λ cs c k lt p A. sim-old cs c k lt A) sim-new

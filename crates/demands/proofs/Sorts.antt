@@ -18,6 +18,8 @@ use Rattle.rows.specs.Access.{accessOf}
 use Rattle.rows.specs.Kinds.{otherOf, kindOf}
 use Rattle.rows.proofs.Groups.{orderAt, other-has}
 use Rattle.rows.proofs.Laws.{place-address, row-place}
+use Rattle.judge.specs.declared.deed.Deed.{Deed}
+use Rattle.judge.specs.declared.deed.Deed.the-variants.{Nothing, Calibrate, Freeze, Aim1, Aim2}
 use Rattle.judge.specs.Deeds.{doneBy}
 use Rattle.state.specs.declared.parts.Stored as parts
 use Rattle.effects.specs.Stored.{storedBy}
@@ -53,16 +55,22 @@ pub interlock-kind : kindOf 0xA8 ≡ WriteOnly Interlock
 unfolding kindOf placeOf rows otherOf
 interlock-kind = refl
 
+-- what holds of each deed of any other address holds of its deed
+pub other-deed : (P : Deed → Type 0) (v w a : ℕ) → placeOf a ≡ Nowhere → eqb a 0xA0 ≡ false → eqb a 0xA8 ≡ false
+    → P Nothing → P Calibrate → P Freeze → P (Aim1 v w) → P (Aim2 v w) → P (doneBy (kindOf a) v w)
+unfolding kindOf doneBy
+other-deed P v w a e p q none calibrate freeze aim1 aim2 = rw e (other-has (λ k. P (doneBy k v w)) a aim1 aim2 (λ s. none) order none)
+  where
+    order : (o : Order) → eqb a (orderAt o) ≡ true → P (doneBy (WriteOnly o) v w)
+    order System is = absurd (true≢false (sym is ∙ p))
+    order Calibration is = calibrate
+    order Interlock is = absurd (true≢false (sym is ∙ q))
+    order Freezing is = freeze
+
 pub other-still : (v w : ℕ) (st : parts.Stored) (a : ℕ) → placeOf a ≡ Nowhere → eqb a 0xA0 ≡ false → eqb a 0xA8 ≡ false
     → storedAfter (doneBy (kindOf a) v w) st ≡ st
-unfolding kindOf storedAfter storedBy restartsOf doneBy
-other-still v w st a e p q = rw e (other-has (λ k. storedAfter (doneBy k v w) st ≡ st) a refl refl (λ s. refl) order refl)
-  where
-    order : (o : Order) → eqb a (orderAt o) ≡ true → storedAfter (doneBy (WriteOnly o) v w) st ≡ st
-    order System is = absurd (true≢false (sym is ∙ p))
-    order Calibration is = refl
-    order Interlock is = absurd (true≢false (sym is ∙ q))
-    order Freezing is = refl
+unfolding storedAfter storedBy restartsOf
+other-still v w st a e p q = other-deed (λ d. storedAfter d st ≡ st) v w a e p q refl refl refl refl refl
 
 -- A0h and A8h are none of the 39
 pub system-nowhere : placeOf 0xA0 ≡ Nowhere

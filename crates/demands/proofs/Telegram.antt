@@ -12,7 +12,7 @@ use lib.Dec.{eqb, ltb}
 use lib.ListN.{length, getD, set, length-set}
 use lib.Seq.{getD-set-same, getD-set-other}
 use Rattle.wire.specs.declared.telegram.Telegram.{Telegram}
-use Rattle.wire.specs.Check.{soundOf}
+use Rattle.wire.specs.Check.{hitOf}
 use Rattle.wire.specs.Telegram.{fieldsOf}
 use Rattle.wire.specs.Word.{byte0}
 use Rattle.rows.specs.declared.access.Access.{Access}
@@ -43,7 +43,7 @@ use Rattle.effects.proofs.Values.{reset-at, reset-length}
 use Rattle.head.specs.Hear.{restartsOf}
 use Rattle.head.proofs.Again.{storedAfter}
 use Rattle.demands.specs.Past.{Change, nothing, writable, lockable, accepted, resets, gives, obeying, look}
-use Rattle.demands.proofs.Sorts.{Sort, value, system, interlock, other, sortOf, value-kind, system-kind, interlock-kind, other-still, system-nowhere, interlock-nowhere, nowhere-apart, value-same, value-system, value-interlock, number-access}
+use Rattle.demands.proofs.Sorts.{Sort, value, system, interlock, other, sortOf, value-kind, system-kind, interlock-kind, other-deed, other-still, system-nowhere, interlock-nowhere, nowhere-apart, value-same, value-system, value-interlock, number-access}
 
 cond-map : {A B : Type 0} (f : A → B) (b : Bool) (x y : A) → f (cond b x y) ≡ cond b (f x) (f y)
 cond-map f true x y = refl
@@ -110,8 +110,8 @@ accepted-is : (ten : List ℕ) (s : Standing)
 unfolding judgedOf accepted lockable lockableOf broadcastOf
 accepted-is ten s =
     let t : Telegram = fieldsOf ten in
-    rw (obeyed-is (soundOf ten) t s, ← takes-is (t .command) (mineOf t s) (accessOf (t .parameter)) (broadcastOf (t .parameter)))
-    (plain (s .locked) (lockable (t .parameter)) (isRight (rangeOf (t .parameter) (t .value))) (commandOf (t .command)) (soundOf ten) (mineOf t s)
+    rw (obeyed-is (hitOf ten) t s, ← takes-is (t .command) (mineOf t s) (accessOf (t .parameter)) (broadcastOf (t .parameter)))
+    (plain (s .locked) (lockable (t .parameter)) (isRight (rangeOf (t .parameter) (t .value))) (commandOf (t .command)) (eqb (hitOf ten) 0) (mineOf t s)
     (accessOf (t .parameter)) (broadcastOf (t .parameter)) (eqb (t .parameter) 0x96 && ltb (s .inputs) (byte0 (t .value)))
     (λ e. number-access (t .parameter) (and-eq-true-iff (eqb (t .parameter) 0x96) _ .0 e .0)) (cast-access (t .parameter)))
 
@@ -122,7 +122,7 @@ done ten = doneBy (kindOf (fieldsOf ten .parameter)) (fieldsOf ten .value) (fiel
 pub deed-is : (ten : List ℕ) (s : Standing) → judgedOf ten s .deed
     ≡ cond (accepted (s .number) (s .locked) ten) (done ten) (cond (isObeyed (judgedOf ten s .verdict)) (shownBy (fieldsOf ten .parameter)) Nothing)
 unfolding judgedOf deedOf
-deed-is ten s = rw (← accepted-is ten s) (go (verdictOf (soundOf ten) (fieldsOf ten) s))
+deed-is ten s = rw (← accepted-is ten s) (go (verdictOf (hitOf ten) (fieldsOf ten) s))
   where
     c : Command
     c = commandOf (fieldsOf ten .command)
@@ -246,16 +246,43 @@ module _ (v w : ℕ) (st : parts.Stored) (full : length (st .values) ≡ 39) whe
           rw (other-still v w st a e p q)
           record { size = refl; vals = λ r lt. rw (none-gives a r e p lt); force = rw p; lock = rw q }
 
--- a telegram, at what a head stores, by the number in force and the lock of its standing
+-- ---- a telegram, by the number in force and the lock of the standing
+accepted-at : (ten : List ℕ) (s : Standing) (f : ℕ) (shut : Bool) → s .number ≡ f → s .locked ≡ shut
+    → accepted (s .number) (s .locked) ten ≡ accepted f shut ten
+accepted-at ten s f shut p q = ap (λ (x : ℕ). accepted x (s .locked) ten) p ∙ ap (λ (x : Bool). accepted f x ten) q
+
+-- at what a head stores
 pub told-becomes : (ten : List ℕ) (s : Standing) (st : parts.Stored) (f : ℕ) (shut : Bool) → length (st .values) ≡ 39 → s .number ≡ f → s .locked ≡ shut
     → Becomes st (cond (accepted f shut ten) (obeying (fieldsOf ten .parameter) (fieldsOf ten .value)) nothing) (storedAfter (judgedOf ten s .deed) st)
-told-becomes ten s st f shut full p q = rw (stored-is ten s st, is) (go (accepted f shut ten))
+told-becomes ten s st f shut full p q = rw (stored-is ten s st, accepted-at ten s f shut p q) (go (accepted f shut ten))
   where
-    is : accepted (s .number) (s .locked) ten ≡ accepted f shut ten
-    is = ap (λ (x : ℕ). accepted x (s .locked) ten) p ∙ ap (λ (x : Bool). accepted f x ten) q
-
     go : (b : Bool)
         → Becomes st (cond b (obeying (fieldsOf ten .parameter) (fieldsOf ten .value)) nothing)
         (cond b (storedAfter (done ten) st) st)
     go true = done-becomes (fieldsOf ten .value) (fieldsOf ten .word) st full (fieldsOf ten .parameter)
     go false = nothing-becomes st
+
+-- an accepted telegram restarts the head where it is A0h 9, and no other does
+done-restarts : (a v w : ℕ) → restartsOf (doneBy (kindOf a) v w) ≡ obeying a v .restarts
+unfolding restartsOf doneBy
+done-restarts a v w = go (sortOf a)
+  where
+    go : Sort a → restartsOf (doneBy (kindOf a) v w) ≡ (eqb a 0xA0 && eqb v 9)
+    go (value i e) = rw (value-kind a i e, value-system a i e)
+    go (system e) = rw (e, system-kind) (system-way (λ d. restartsOf d ≡ eqb v 9) v (λ n. rw n) (λ n. rw n) (λ n. rw n) (λ n. sym n))
+    go (interlock e) = rw (e, interlock-kind)
+    go (other e p q) = rw p (other-deed (λ d. restartsOf d ≡ false) v w a e p q refl refl refl refl refl)
+
+pub told-restarts : (ten : List ℕ) (s : Standing) (f : ℕ) (shut : Bool) → s .number ≡ f → s .locked ≡ shut
+    → restartsOf (judgedOf ten s .deed) ≡ cond (accepted f shut ten) (obeying (fieldsOf ten .parameter) (fieldsOf ten .value)) nothing .restarts
+unfolding restartsOf shownBy
+told-restarts ten s f shut p q =
+    rw (deed-is ten s, accepted-at ten s f shut p q) (go (accepted f shut ten) (isObeyed (judgedOf ten s .verdict)))
+  where
+    a : ℕ
+    a = fieldsOf ten .parameter
+
+    go : (x y : Bool) → restartsOf (cond x (done ten) (cond y (shownBy a) Nothing)) ≡ cond x (obeying a (fieldsOf ten .value)) nothing .restarts
+    go true y = done-restarts a (fieldsOf ten .value) (fieldsOf ten .word)
+    go false true = either (λ d. restartsOf d ≡ false) (eqb a 0xFA) (λ _. refl) (either (λ d. restartsOf d ≡ false) (eqb a 0xFE) (λ _. refl) refl)
+    go false false = refl

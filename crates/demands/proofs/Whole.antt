@@ -25,6 +25,7 @@ use Rattle.line.specs.Round.{saidBy}
 use Rattle.demands.specs.Past as past
 use Rattle.demands.specs.Past.{since, gather}
 use Rattle.demands.specs.Demand3.{Steady}
+use Rattle.demands.specs.Unseen.{keeping}
 use Rattle.demands.proofs.Ear.{Gathered, ear-short, ear-whole, ear-alone}
 
 -- the head after bytes, byte i at the time τ i, and its replies
@@ -36,9 +37,12 @@ abbrev pub said : List ℕ → (ℕ → ℕ) → ℕ → Head → List (List ℕ
 said [] τ i h = []
 said (b ∷ bs) τ i h = saidBy (stepOf h b (τ i)) ++ said bs τ (suc i) (stepOf h b (τ i) .head)
 
--- ---- a telegram does not look at the bytes gathered
-module _ (h : Head) (e : Ear) where
-  shows-apart : (s : Shown) (v : ℕ) → showsOf s (withEar h e) v ≡ showsOf s h v
+-- ---- a reply does not look at the bytes gathered, nor at what is kept of the last damaged telegram
+module _ (h : Head) (e : Ear) (x : ℕ) where
+  abbrev other : Head
+  other = keeping (withEar h e) x
+
+  shows-apart : (s : Shown) (v : ℕ) → showsOf s other v ≡ showsOf s h v
   unfolding statusOf
   shows-apart Identification v = refl
   shows-apart Version v = refl
@@ -50,7 +54,7 @@ module _ (h : Head) (e : Ear) where
   shows-apart Pending v = refl
   shows-apart Position v = refl
 
-  read-apart : (k : Kind) (v : ℕ) → readOf k (withEar h e) v ≡ readOf k h v
+  read-apart : (k : Kind) (v : ℕ) → readOf k other v ≡ readOf k h v
   unfolding readOf
   read-apart (Stored i) v = refl
   read-apart SetPoint1 v = refl
@@ -59,15 +63,20 @@ module _ (h : Head) (e : Ear) where
   read-apart (WriteOnly o) v = refl
   read-apart Unknown v = refl
 
-  by-apart : (v : Verdict) (j : Judged) (w : ℕ) → replyBy v j (withEar h e) w ≡ replyBy v j h w
+  by-apart : (v : Verdict) (j : Judged) (w : ℕ) → replyBy v j other w ≡ replyBy v j h w
   unfolding valueReply answerOf
   by-apart Obeyed j w = rw (read-apart (j .kind) (j .telegram .value))
   by-apart Silent j w = refl
   by-apart (Refused f) j w = refl
 
-  pub tell-apart : (ten : List ℕ) (t : ℕ) → tellOf (withEar h e) ten t ≡ tellOf h ten t
-  unfolding tellOf standingOf toldOf statusOf replyOf
-  tell-apart ten t = rw (by-apart _ (judgedOf ten (standingOf h)) _)
+  pub reply-apart : (j : Judged) (w : ℕ) → replyOf j other w ≡ replyOf j h w
+  unfolding replyOf
+  reply-apart j w = by-apart (j .verdict) j w
+
+-- so a telegram does not look at the bytes gathered
+pub tell-apart : (h : Head) (e : Ear) (ten : List ℕ) (t : ℕ) → tellOf (withEar h e) ten t ≡ tellOf h ten t
+unfolding tellOf standingOf toldOf statusOf
+tell-apart h e ten t = rw (reply-apart h e (h .faults .hit) (judgedOf ten (standingOf h)) (statusOf h))
 
 -- ---- bytes in time
 gather-on : (g : past.Ear) (b t : ℕ) → since t (g .last) ≤ 10 → gather g b t ≡ g .bytes ++ (b ∷ [])

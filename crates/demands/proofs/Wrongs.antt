@@ -46,7 +46,7 @@ like s f m k =
 
 abbrev faulty : Head
 faulty =
-    like (new .stored) (record { memory = rememberedOf emptyList 0x0080; inputs = rememberedOf emptyList 0x0282; pending = 0; damaged = 0 }) (new .monitor) 0
+    like (new .stored) (record { memory = rememberedOf emptyList 0x0080; inputs = rememberedOf emptyList 0x0282; pending = 0; hit = 0; damaged = 0 }) (new .monitor) 0
 
 abbrev pressed : Head
 pressed = like (new .stored) (new .faults) (new .monitor) 1
@@ -95,7 +95,7 @@ record Ends (h : Head) (b reply : ℕ) : Type 0 where
   laid-is : byteSpaceOf h b 0 space ≡ split 10 reply
 
 -- reads of 20h, 04h, 80h and 96h
-abbrev read20 : Head
+abbrev pub read20 : Head
 read20 = gathered new 0x001F20000000000000
 
 record Reads : Type 0 where

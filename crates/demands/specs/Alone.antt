@@ -52,8 +52,9 @@ pub record Restarted (h k : Head) : Type 0 where
   pub valid2 : k .targets .valid2 ≡ false
   pub word : k .targets .word ≡ 0
   pub reached : k .targets .reached ≡ false
-  -- pending error, counts, input list, keys
+  -- pending error, the last non-zero exclusive-or (document 02, request (i)), counts, input list, keys
   pub pending : k .faults .pending ≡ 0
+  pub hit : k .faults .hit ≡ 0
   pub damaged : k .faults .damaged ≡ 0
   pub inputs : entries (k .faults .inputs) ≡ []
   pub keys : k .keys ≡ 0
@@ -77,6 +78,7 @@ pub record Ticked (h k : Head) (t : ℕ) : Type 0 where
   pub running : k .monitor .running ≡ cond (overdue h t) false (h .monitor .running)
   pub since′ : k .monitor .since ≡ cond (overdue h t) 0 (h .monitor .since)
   pub inputs : k .faults .inputs ≡ h .faults .inputs
+  pub hit : k .faults .hit ≡ h .faults .hit
   pub damaged : k .faults .damaged ≡ h .faults .damaged
   pub stored : k .stored ≡ h .stored
   pub measurement : k .measurement ≡ h .measurement
@@ -135,6 +137,7 @@ pub record Keyed (h k : Head) (state : ℕ) : Type 0 where
   pub kept : k .measurement .kept ≡ h .measurement .kept
   pub memory : k .faults .memory ≡ h .faults .memory
   pub inputs : k .faults .inputs ≡ h .faults .inputs
+  pub hit : k .faults .hit ≡ h .faults .hit
   pub damaged : k .faults .damaged ≡ h .faults .damaged
   pub stored : k .stored ≡ h .stored
   pub targets : k .targets ≡ h .targets

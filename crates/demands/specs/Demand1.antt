@@ -18,6 +18,8 @@ use Rattle.state.specs.Wellformed.{wellformedOf}
 use Rattle.head.specs.declared.refusal.Refusal.{Refusal}
 use Rattle.head.specs.declared.calls.Answer.{Answer}
 use Rattle.head.specs.declared.calls.Heard.{Heard}
+use Rattle.head.specs.declared.calls.Hit.{Hit}
+use Rattle.head.specs.declared.calls.Hit.the-variants.{Bits, Refused}
 use Rattle.head.specs.Refusals.{refusalOf}
 use Rattle.head.specs.Calls.{factoryOf}
 use Rattle.head.specs.Outcome as alone
@@ -53,17 +55,24 @@ nodeRow node = row 1 (not (leb 1 node && leb node 127))
 abbrev pub spaceRow : ℕ → Row
 spaceRow s = row 6 (ltb s 10)
 
+-- a call that names a head, and one on a head alone, with the rows of its own
+abbrev pub namedRows : Line → ℕ → List Row → List Row
+namedRows l j own = row 20 (not (fitsOf l)) ∷ row 3 (leb (l .count) j) ∷ own
+
+abbrev pub headRows : Head → List Row → List Row
+headRows h own = row 20 (not (wellformedOf h)) ∷ own
+
 -- 20 goes before all others, 2 before 1, and 3 before 4 and 5
 abbrev pub rowsFor : Call → Line → List Row
 rowsFor (newHead node) l = row 20 (not (fitsOf l)) ∷ row 2 (leb 8 (l .count)) ∷ nodeRow node ∷ []
 rowsFor (byte b t s) l = row 20 (not (fitsOf l)) ∷ spaceRow s ∷ []
 rowsFor (tick t) l = row 20 (not (fitsOf l)) ∷ ownRows (alone.tick t)
-rowsFor (named j a) l = row 20 (not (fitsOf l)) ∷ row 3 (leb (l .count) j) ∷ ownRows (aloneOf a)
+rowsFor (named j a) l = namedRows l j (ownRows (aloneOf a))
 
 -- the same for a head alone
 abbrev pub rowsAlone : alone.Call → Head → List Row
-rowsAlone (alone.byte b t space) h = row 20 (not (wellformedOf h)) ∷ spaceRow (length space) ∷ []
-rowsAlone (alone.asked a) h = row 20 (not (wellformedOf h)) ∷ ownRows a
+rowsAlone (alone.byte b t space) h = headRows h (spaceRow (length space) ∷ [])
+rowsAlone (alone.asked a) h = headRows h (ownRows a)
 
 -- ---- the number that a call returns
 abbrev pub numbered : Option Refusal → Option ℕ
@@ -75,6 +84,10 @@ ofAnswer a = numbered (alone.ofAnswer a)
 
 abbrev pub ofHeard : Heard → Option ℕ
 ofHeard x = numbered (alone.ofHeard x)
+
+abbrev pub ofHit : Hit → Option ℕ
+ofHit (Bits x) = none
+ofHit (Refused why) = some (refusalOf why)
 
 abbrev pub refusedAs : OnLine → Call → Line → Option ℕ
 refusedAs m (newHead node) l = ofAnswer (m .grow l node .answer)
@@ -103,6 +116,9 @@ pub record Demand1 (m : System) : Type 0 where
   -- a call on a line, or on a head alone, returns the number of the table, exactly when the table gives it
   pub line-number : (c : Call) (l : Line) → refusedAs (m .onLine) c l ≡ first (rowsFor c l)
   pub head-number : (c : alone.Call) (h : Head) → refusedAlone (m .onHead) c h ≡ first (rowsAlone c h)
+  -- document 02, request (i): so does the call that reads the last non-zero exclusive-or, which has no row of its own
+  pub line-hit : (l : Line) (j : ℕ) → ofHit (m .onLine .hit l j) ≡ first (namedRows l j [])
+  pub head-hit : (h : Head) → ofHit (m .onHead .hit h) ≡ first (headRows h [])
   pub made-number : (node : ℕ) → ofAnswer (m .onHead .make node .answer) ≡ first (nodeRow node ∷ [])
   -- 20 exactly when one of its clauses fails
   pub twenty : Twenty
@@ -110,7 +126,7 @@ pub record Demand1 (m : System) : Type 0 where
   pub made-head : (node : ℕ) → ofAnswer (m .onHead .make node .answer) ≡ none → Numbered (m .onHead .make node .head) node
   pub made-factory : (node n : ℕ) → ofAnswer (m .onHead .make node .answer) ≡ some n
       → (m .onHead .make node .head ≡ factoryOf) × (factoryOf ≡ m .onHead .make 31 .head) × Numbered factoryOf 31
-  -- refused, it changes no line and no head, and no byte of the space
+  -- refused, it changes no line and no head, and no byte of the space (a call that reads what a head keeps hands back no line and no head)
   pub line-same : (c : Call) (l : Line) (n : ℕ) → refusedAs (m .onLine) c l ≡ some n → after (m .onLine) c l ≡ l
   pub space-same : (l : Line) (b t : ℕ) (space : List ℕ) (n : ℕ)
       → refusedAs (m .onLine) (byte b t (length space)) l ≡ some n → m .onLine .space l b t space ≡ space

@@ -9,7 +9,7 @@ use mathlib.Core.Bool.{true, false}
 use mathlib.Core.List.{List, _++_}
 use lib.IntN.{ℤ}
 use lib.ListN.{length, take, drop}
-use Rattle.wire.specs.Check.{soundOf}
+use Rattle.wire.specs.Check.{hitOf}
 use Rattle.judge.specs.declared.deed.Deed.the-variants.{Restart}
 use Rattle.judge.specs.declared.verdict.Standing.{Standing}
 use Rattle.judge.specs.declared.verdict.Verdict.the-variants.{Obeyed}
@@ -19,8 +19,10 @@ use Rattle.state.specs.declared.parts.Head.{Head}
 use Rattle.state.specs.declared.parts.ErrorList.{ErrorList}
 use Rattle.state.specs.Errors.{rememberedOf}
 use Rattle.state.specs.Status.{statusOf}
+use Rattle.state.specs.Wellformed.{wellformedOf}
 use Rattle.head.specs.declared.calls.Answer.the-variants.{Done}
 use Rattle.head.specs.declared.calls.Heard.the-variants as heard
+use Rattle.head.specs.declared.calls.Hit.the-variants as hit
 use Rattle.reply.specs.Reply.{replyOf}
 use Rattle.head.specs.Hear.{standingOf, gatheredOf, toldOf, withEar}
 use Rattle.head.specs.Outcome as alone
@@ -52,9 +54,9 @@ pub record Demand2 (m : System) : Type 0 where
       → (m .onHead .byte h b t (length space) .heard ≡ heard.Replies 0) × (m .onHead .space h b t space ≡ space)
   -- each telegram that a head sends, alone or on a line, passes its own check
   pub head-sound : (h : Head) (b t : ℕ) (space : List ℕ) → m .onHead .byte h b t (length space) .heard ≡ heard.Replies 1
-      → soundOf (take 10 (m .onHead .space h b t space)) ≡ true
+      → hitOf (take 10 (m .onHead .space h b t space)) ≡ 0
   pub line-sound : (l : Line) (b t : ℕ) (space : List ℕ) → m .onLine .byte l b t (length space) .heard ≡ heard.Replies 1
-      → soundOf (take 10 (m .onLine .space l b t space)) ≡ true
+      → hitOf (take 10 (m .onLine .space l b t space)) ≡ 0
   -- what holds of every telegram: what a reply copies, its status word, and what is left as it was; and the bits of that word
   pub every : Every m
   pub bits : (h : Head) → Bits h
@@ -71,6 +73,8 @@ pub record Demand2 (m : System) : Type 0 where
   pub ticks : (h : Head) (t : ℕ) → m .onHead .ask (alone.tick t) h .answer ≡ Done → Ticked h (m .onHead .ask (alone.tick t) h .head) t
   pub measures : (h : Head) (x : ℤ) → m .onHead .ask (alone.measure x) h .answer ≡ Done → Measured h (m .onHead .ask (alone.measure x) h .head) x
   pub presses : (h : Head) (state : ℕ) → m .onHead .ask (alone.keys state) h .answer ≡ Done → Keyed h (m .onHead .ask (alone.keys state) h .head) state
+  -- what the last damaged telegram was hit by: what the head keeps of it
+  pub shows : (h : Head) → wellformedOf h ≡ true → m .onHead .hit h ≡ hit.Bits (h .faults .hit)
   -- an error list with one code more: of at most ten, in ten places
   pub remembers : (l : ErrorList) (code : ℕ) → length (l .codes) ≡ 10 → l .count ≤ 10 → entries (rememberedOf l code) ≡ entered (entries l) code
   -- ---- a byte on a line that fits, with ten bytes of space: each head then stands as it does alone, and as many are there as before
@@ -95,3 +99,4 @@ pub record Demand2 (m : System) : Type 0 where
       × (m .onLine .tick l t .line .count ≡ l .count)
   pub line-asks : (l : Line) (i : ℕ) (a : Ask) → Fits l → i < l .count → ToOne l i (m .onLine .ask a l i) (m .onHead .ask (aloneOf a) (headAt l i))
   pub line-grows : (l : Line) (node : ℕ) → Fits l → l .count < 8 → Grown l (m .onLine .grow l node) (m .onHead .make node)
+  pub line-shows : (l : Line) (i : ℕ) → Fits l → i < l .count → m .onLine .hit l i ≡ m .onHead .hit (headAt l i)

@@ -11,7 +11,7 @@ use mathlib.Core.Logic.{_≢_, _⊎_}
 use mathlib.Core.List.{List, [], _∷_}
 use mathlib.Core.Option.{Option, none, some}
 use lib.ListN.{length}
-use Rattle.wire.specs.Check.{soundOf}
+use Rattle.wire.specs.Check.{hitOf}
 use Rattle.wire.specs.Telegram.{fieldsOf}
 use Rattle.rows.specs.Table.{rowOf, address}
 use Rattle.head.specs.declared.calls.Heard.the-variants as heard
@@ -39,11 +39,11 @@ pub record Differ (cs : Calls) : Type 0 where
 -- a byte that is heard ends no sound broadcast at any head: its ten bytes, where it ends a telegram, are damaged or not of the command 02h
 pub record NoBroadcast (cs : Calls) (b t s : ℕ) : Type 0 where
   pub none-ends : (k : ℕ) → k < count cs → 10 ≤ s → length (gather (entry cs k .ear) b t) ≡ 10
-      → soundOf (gather (entry cs k .ear) b t) ≡ true → fieldsOf (gather (entry cs k .ear) b t) .command ≢ 2
+      → hitOf (gather (entry cs k .ear) b t) ≡ 0 → fieldsOf (gather (entry cs k .ear) b t) .command ≢ 2
 
 -- x is a sound reply for the parameter at place r, and its data are v
 pub record Shows (r v : ℕ) (x : List ℕ) : Type 0 where
-  pub passes : soundOf x ≡ true
+  pub passes : hitOf x ≡ 0
   pub own : fieldsOf x .parameter ≡ address (rowOf r)
   pub shown : fieldsOf x .value ≡ v
 

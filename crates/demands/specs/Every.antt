@@ -1,15 +1,15 @@
--- What is the same for every telegram, over the public byte call of a head alone: what a reply copies, and what a read, and a write of a stored
--- parameter, leave as they were.
+-- What is the same for every telegram, over the public byte call of a head alone: what a reply copies; what a read, and a write of a stored
+-- parameter, leave as they were; what a sound one and a damaged one do to the monitor and to the errors.
 -- Assumes nothing.
 use Prim.Native.Nat.{ℕ, _+_, _<_}
 use mathlib.Core.Path.{_≡_}
-use mathlib.Core.Bool.{Bool, true, false, cond, not}
+use mathlib.Core.Bool.{Bool, true, cond, not, _&&_}
 use mathlib.Core.Logic.{_≢_}
 use mathlib.Core.List.{List}
-use lib.Dec.{ltb}
+use lib.Dec.{ltb, eqb}
 use lib.ListN.{length, take}
 use Rattle.wire.specs.declared.telegram.Telegram.{Telegram}
-use Rattle.wire.specs.Check.{soundOf}
+use Rattle.wire.specs.Check.{hitOf}
 use Rattle.wire.specs.declared.fault.Fault.{Fault}
 use Rattle.wire.specs.Faults.{codeOf}
 use Rattle.wire.specs.Telegram.{fieldsOf}
@@ -47,14 +47,26 @@ pub record Polled (h k : Head) : Type 0 where
   pub start : k .measurement .start ≡ h .measurement .start
   pub keys : k .keys ≡ h .keys
 
--- a head after a damaged telegram
+-- one more damaged telegram is the third in a row
 abbrev pub third : Head → Bool
 third h = not (ltb (h .faults .damaged) 2)
 
-pub record Damaged (h k : Head) : Type 0 where
+-- a head after a damaged telegram, the exclusive-or of whose ten bytes is x
+pub record Damaged (h k : Head) (x : ℕ) : Type 0 where
+  pub hit : k .faults .hit ≡ x
   pub damaged : k .faults .damaged ≡ cond (third h) 0 (h .faults .damaged + 1)
   pub pending : k .faults .pending ≡ cond (third h) 0x0080 (h .faults .pending)
   pub memory : k .faults .memory ≡ cond (third h) (rememberedOf (h .faults .memory) 0x0080) (h .faults .memory)
+  -- whichever bits were hit, it does not start the monitor, and is not obeyed
+  pub monitor : k .monitor ≡ h .monitor
+  pub stored : k .stored ≡ h .stored
+  pub measurement : k .measurement ≡ h .measurement
+  pub targets : k .targets ≡ h .targets
+  pub keys : k .keys ≡ h .keys
+
+-- a telegram that is this head's to answer: the node byte is the number in force, and the command is not 02h
+abbrev pub mine : Telegram → Head → Bool
+mine t h = eqb (t .node) (h .stored .number) && not (eqb (t .command) 2)
 
 pub record Every (m : System) : Type 0 where
   pub copies : (h : Head) (b t : ℕ) (space : List ℕ) → Taken h space → gatheredOf (h .ear) b t .whole ≡ true
@@ -69,11 +81,24 @@ pub record Every (m : System) : Type 0 where
       → let k = m .onHead .byte h b t (length space) .head in (k .measurement ≡ h .measurement) × (k .targets ≡ h .targets)
   -- a sound telegram starts the monitor, also one for another head
   pub starts : (h : Head) (b t : ℕ) (space : List ℕ) → Taken h space → gatheredOf (h .ear) b t .whole ≡ true
-      → soundOf (gatheredOf (h .ear) b t .ten) ≡ true → judgedOf (gatheredOf (h .ear) b t .ten) (standingOf h) .deed ≢ Restart
+      → hitOf (gatheredOf (h .ear) b t .ten) ≡ 0 → judgedOf (gatheredOf (h .ear) b t .ten) (standingOf h) .deed ≢ Restart
       → m .onHead .byte h b t (length space) .head .monitor ≡ record { running = true; since = t }
-  -- a damaged one counts; the third in a row raises 0080h, and the count returns to 0
+  -- it leaves what the head keeps of the last damaged one, and sets their count to 0 (a restart: `restarts` of Demand2)
+  pub spares : (h : Head) (b t : ℕ) (space : List ℕ) → Taken h space → gatheredOf (h .ear) b t .whole ≡ true
+      → hitOf (gatheredOf (h .ear) b t .ten) ≡ 0 → judgedOf (gatheredOf (h .ear) b t .ten) (standingOf h) .deed ≢ Restart
+      → let k = m .onHead .byte h b t (length space) .head in (k .faults .hit ≡ h .faults .hit) × (k .faults .damaged ≡ 0)
+  -- a damaged one, for whomever, is kept by its exclusive-or, and counts; the third in a row raises 0080h, and the count returns to 0
   pub counts : (h : Head) (b t : ℕ) (space : List ℕ) → Taken h space → gatheredOf (h .ear) b t .whole ≡ true
-      → soundOf (gatheredOf (h .ear) b t .ten) ≡ false → Damaged h (m .onHead .byte h b t (length space) .head)
+      → hitOf (gatheredOf (h .ear) b t .ten) ≢ 0 → Damaged h (m .onHead .byte h b t (length space) .head) (hitOf (gatheredOf (h .ear) b t .ten))
+  -- and whichever bits were hit, the answer is the same: 00 80, which enters the input list, where it is this head's to answer; else silence, and
+  -- that list is as it was
+  pub refuses : (h : Head) (b t : ℕ) (space : List ℕ) → Taken h space → gatheredOf (h .ear) b t .whole ≡ true
+      → hitOf (gatheredOf (h .ear) b t .ten) ≢ 0
+      → let own = mine (fieldsOf (gatheredOf (h .ear) b t .ten)) h in
+      let x = fieldsOf (take 10 (m .onHead .space h b t space)) in
+      (m .onHead .byte h b t (length space) .heard ≡ heard.Replies (cond own 1 0))
+      × (own ≡ true → (x .parameter ≡ 0xFD) × (x .value ≡ 0x0080))
+      × (m .onHead .byte h b t (length space) .head .faults .inputs ≡ cond own (rememberedOf (h .faults .inputs) 0x0080) (h .faults .inputs))
   -- an error reply enters the input list with its code
   pub complains : (h : Head) (b t : ℕ) (space : List ℕ) → Taken h space → gatheredOf (h .ear) b t .whole ≡ true
       → (f : Fault) → judgedOf (gatheredOf (h .ear) b t .ten) (standingOf h) .verdict ≡ Refused f

@@ -9,6 +9,9 @@ pub mod Twenty
 pub mod Demand1
 pub mod Demand2
 pub mod Demand3
+pub mod Hits
+pub mod Unseen
+pub mod WrongHits
 pub mod Ordered
 pub mod Proposed
 pub mod Wrong

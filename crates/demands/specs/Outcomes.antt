@@ -55,8 +55,7 @@ One {n} ps r post =
     → post κs a y (atExit (endedOf n ps r) κs a u) → post κs a z (atExit (endedOf n ps r) κs a v) → (y ≡ z) × (u ≡ v)
 
 pub record Outcomes : Type 0 where
-  pub wire-check-exclusive-or : One wire-check.exclusive_or.Kinds.ps wire-check.exclusive_or.Kinds.r wire-check.exclusive_or.Reads.Post
-  pub wire-check-sound : One wire-check.sound.Kinds.ps wire-check.sound.Kinds.r wire-check.sound.Reads.Post
+  pub wire-check-hit : One wire-check.hit.Kinds.ps wire-check.hit.Kinds.r wire-check.hit.Reads.Post
   pub wire-fault-code : One wire-fault.Fault.code.Kinds.ps wire-fault.Fault.code.Kinds.r wire-fault.Fault.code.Reads.Post
   pub wire-telegram-fields : One wire-telegram.fields.Kinds.ps wire-telegram.fields.Kinds.r wire-telegram.fields.Reads.Post
   pub wire-telegram-bytes : One wire-telegram.bytes.Kinds.ps wire-telegram.bytes.Kinds.r wire-telegram.bytes.Reads.Post
@@ -138,6 +137,7 @@ pub record Outcomes : Type 0 where
   pub head-calls-measure : One head-calls.measure.Kinds.ps head-calls.measure.Kinds.r head-calls.measure.Reads.Post
   pub head-calls-keys : One head-calls.keys.Kinds.ps head-calls.keys.Kinds.r head-calls.keys.Reads.Post
   pub head-calls-power : One head-calls.power.Kinds.ps head-calls.power.Kinds.r head-calls.power.Reads.Post
+  pub head-calls-last-hit : One head-calls.last_hit.Kinds.ps head-calls.last_hit.Kinds.r head-calls.last_hit.Reads.Post
   pub head-calls-number-in-force : One head-calls.number_in_force.Kinds.ps head-calls.number_in_force.Kinds.r head-calls.number_in_force.Reads.Post
   pub head-calls-baud-in-force : One head-calls.baud_in_force.Kinds.ps head-calls.baud_in_force.Kinds.r head-calls.baud_in_force.Reads.Post
   pub head-hear-elapsed : One head-hear.elapsed.Kinds.ps head-hear.elapsed.Kinds.r head-hear.elapsed.Reads.Post
@@ -159,6 +159,7 @@ pub record Outcomes : Type 0 where
   pub line-calls-measure : One line-calls.measure.Kinds.ps line-calls.measure.Kinds.r line-calls.measure.Reads.Post
   pub line-calls-keys : One line-calls.keys.Kinds.ps line-calls.keys.Kinds.r line-calls.keys.Reads.Post
   pub line-calls-power : One line-calls.power.Kinds.ps line-calls.power.Kinds.r line-calls.power.Reads.Post
+  pub line-calls-last-hit : One line-calls.last_hit.Kinds.ps line-calls.last_hit.Kinds.r line-calls.last_hit.Reads.Post
   pub order-form-answer-number : One order_form-answer.Refusal.number.Kinds.ps order_form-answer.Refusal.number.Kinds.r order_form-answer.Refusal.number.Reads.Post
   pub order-form-form-blank : One order_form-form.blank.Kinds.ps order_form-form.blank.Kinds.r order_form-form.blank.Reads.Post
   pub order-form-form-add : One order_form-form.add.Kinds.ps order_form-form.add.Kinds.r order_form-form.add.Reads.Post

@@ -9,7 +9,7 @@ use mathlib.Core.Option.{Option, none, some}
 use lib.Dec.{leb, ltb, eqb}
 use lib.ListN.{length}
 use Rattle.wire.specs.declared.telegram.Telegram.{Telegram}
-use Rattle.wire.specs.Check.{soundOf}
+use Rattle.wire.specs.Check.{hitOf}
 use Rattle.wire.specs.Telegram.{fieldsOf}
 use Rattle.rows.specs.declared.access.Access.{Access}
 use Rattle.rows.specs.declared.access.Access.the-variants.{ReadWrite, ReadOnly, WriteOnly, Unknown}
@@ -115,7 +115,7 @@ acceptedFields force locked t =
     (writes force t || casts t) && (not (locked && lockable (t .parameter)) && isRight (rangeOf (t .parameter) (t .value)))
 
 unfoldable pub accepted : ℕ → Bool → List ℕ → Bool
-accepted force locked ten = soundOf ten && acceptedFields force locked (fieldsOf ten)
+accepted force locked ten = eqb (hitOf ten) 0 && acceptedFields force locked (fieldsOf ten)
 
 -- the bus parameters; A0h 1 resets all, 2 all but these, 5 these
 abbrev pub bus : ℕ → Bool

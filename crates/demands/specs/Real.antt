@@ -63,9 +63,10 @@ pub record Real (m : System) : Type 0 where
   pub measure : Gives head-calls.measure.Kinds.ps head-calls.measure.Kinds.r head-calls.measure.Reads.Post (λ κs a. m .onHead .ask (alone.measure (a .1 .0)) (a .0))
   pub keys : Gives head-calls.keys.Kinds.ps head-calls.keys.Kinds.r head-calls.keys.Reads.Post (λ κs a. m .onHead .ask (alone.keys (a .1 .0)) (a .0))
   pub power : Gives head-calls.power.Kinds.ps head-calls.power.Kinds.r head-calls.power.Reads.Post (λ κs a. m .onHead .ask alone.power (a .0))
-  -- what a driver asks: the number and the baud setting in force; the number of a refusal
+  -- what a driver asks: the number and the baud setting in force; what the bench asks, the last non-zero exclusive-or; the number of a refusal
   pub number-in-force : Gives head-calls.number_in_force.Kinds.ps head-calls.number_in_force.Kinds.r head-calls.number_in_force.Reads.Post (λ κs a. a .0 .stored .number)
   pub baud-in-force : Gives head-calls.baud_in_force.Kinds.ps head-calls.baud_in_force.Kinds.r head-calls.baud_in_force.Reads.Post (λ κs a. a .0 .stored .baud)
+  pub last-hit : Gives head-calls.last_hit.Kinds.ps head-calls.last_hit.Kinds.r head-calls.last_hit.Reads.Post (λ κs a. m .onHead .hit (a .0))
   pub number : Gives head-refusal.Refusal.number.Kinds.ps head-refusal.Refusal.number.Kinds.r head-refusal.Refusal.number.Reads.Post (λ κs a. refusalOf (a .0))
   -- a line
   pub empty : Gives line-calls.empty.Kinds.ps line-calls.empty.Kinds.r line-calls.empty.Reads.Post (λ κs a. emptyOf)
@@ -78,6 +79,7 @@ pub record Real (m : System) : Type 0 where
   pub line-measure : Gives line-calls.measure.Kinds.ps line-calls.measure.Kinds.r line-calls.measure.Reads.Post (λ κs a. m .onLine .ask (calls.measure (a .1 .1 .0)) (a .0) (a .1 .0))
   pub line-keys : Gives line-calls.keys.Kinds.ps line-calls.keys.Kinds.r line-calls.keys.Reads.Post (λ κs a. m .onLine .ask (calls.keys (a .1 .1 .0)) (a .0) (a .1 .0))
   pub line-power : Gives line-calls.power.Kinds.ps line-calls.power.Kinds.r line-calls.power.Reads.Post (λ κs a. m .onLine .ask calls.power (a .0) (a .1 .0))
+  pub line-last-hit : Gives line-calls.last_hit.Kinds.ps line-calls.last_hit.Kinds.r line-calls.last_hit.Reads.Post (λ κs a. m .onLine .hit (a .0) (a .1 .0))
 
 -- The check of an order form that a program calls is the one that the demands on it are proved of (the crate order_form, Demand).
 pub record RealForm (check : List Row → Answer) : Type 2 where

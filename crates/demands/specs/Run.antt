@@ -12,30 +12,34 @@ use Rattle.head.specs.declared.calls.Called as head-Called
 use Rattle.head.specs.declared.calls.Fed as head-Fed
 use Rattle.head.specs.declared.calls.Heard.{Heard}
 use Rattle.head.specs.declared.calls.Heard.the-variants as heard
+use Rattle.head.specs.declared.calls.Hit.{Hit}
 use Rattle.head.specs.Hear.{withEar}
 use Rattle.head.specs.Calls as head
 use Rattle.head.specs.Outcome as alone
 use Rattle.line.specs.declared.calls.Line.{Line}
 use Rattle.line.specs.declared.calls.Called.{Called}
 use Rattle.line.specs.declared.calls.Fed.{Fed}
-use Rattle.line.specs.Calls.{emptyOf, headAt, fitsOf, growOf, byteOf, byteSpaceOf, tickOf, measureOf, keysOf, powerOf}
+use Rattle.line.specs.Calls.{emptyOf, headAt, fitsOf, growOf, byteOf, byteSpaceOf, tickOf, measureOf, keysOf, powerOf, lastHitOf}
 use Rattle.demands.specs.Calls.{Ask, measure, keys, power, Call, newHead, byte, tick, named, Calls, start, _▸_}
 
 -- ---- the calls on a head alone: it is made with a node number; a byte, by its time and the length of the space lent, and the space after it;
--- a tick, a measurement, a key state, power
+-- a tick, a measurement, a key state, power; what the last damaged telegram was hit by
 pub record OnHead : Type 0 where
   pub make : ℕ → head-Called.Called
   pub byte : Head → ℕ → ℕ → ℕ → head-Fed.Fed
   pub space : Head → ℕ → ℕ → List ℕ → List ℕ
   pub ask : alone.Ask → Head → head-Called.Called
+  pub hit : Head → Hit
 
--- the calls on a line: it is grown by a node number; a byte; a tick; a call that names a head
+-- the calls on a line: it is grown by a node number; a byte; a tick; a call that names a head; what the last damaged telegram that a head heard
+-- was hit by
 pub record OnLine : Type 0 where
   pub grow : Line → ℕ → Called
   pub byte : Line → ℕ → ℕ → ℕ → Fed
   pub space : Line → ℕ → ℕ → List ℕ → List ℕ
   pub tick : Line → ℕ → Called
   pub ask : Ask → Line → ℕ → Called
+  pub hit : Line → ℕ → Hit
 
 pub record System : Type 0 where
   pub onHead : OnHead
@@ -50,8 +54,8 @@ askOf power l j = powerOf l j
 abbrev pub product : System
 product =
     record {
-      onHead = record { make = head.madeOf; byte = head.byteOf; space = head.byteSpaceOf; ask = alone.called };
-      onLine = record { grow = growOf; byte = byteOf; space = byteSpaceOf; tick = tickOf; ask = askOf };
+      onHead = record { make = head.madeOf; byte = head.byteOf; space = head.byteSpaceOf; ask = alone.called; hit = head.lastHitOf };
+      onLine = record { grow = growOf; byte = byteOf; space = byteSpaceOf; tick = tickOf; ask = askOf; hit = lastHitOf };
     }
 
 -- the same asked of a head alone

@@ -16,6 +16,7 @@ use Rattle.head.specs.declared.refusal.Refusal.{Refusal}
 use Rattle.head.specs.declared.refusal.Refusal.the-variants.{Node, OutOfReach}
 use Rattle.head.specs.declared.calls.Heard.{Heard}
 use Rattle.head.specs.declared.calls.Heard.the-variants as heard
+use Rattle.head.specs.declared.calls.Hit.the-variants as hit
 use Rattle.head.specs.Hear.{withEar}
 use Rattle.head.specs.Calls as head
 use Rattle.head.specs.Outcome as alone
@@ -37,6 +38,7 @@ refusing why =
         byte = λ h b t n. record { head = h; heard = heard.Refused why };
         space = λ h b t s. s;
         ask = λ a h. head.refusedWith h why;
+        hit = λ h. hit.Refused why;
       };
       onLine = record {
         grow = λ l node. line.refusedWith l why;
@@ -44,6 +46,7 @@ refusing why =
         space = λ l b t s. s;
         tick = λ l t. line.refusedWith l why;
         ask = λ a l j. line.refusedWith l why;
+        hit = λ l j. hit.Refused why;
       };
     }
 
@@ -56,6 +59,7 @@ unchanging =
         byte = λ h b t n. record { head = h; heard = head.byteOf h b t n .heard };
         space = head.byteSpaceOf;
         ask = λ a h. record { head = h; answer = alone.called a h .answer };
+        hit = head.lastHitOf;
       };
       onLine = record {
         grow = λ l node. record { line = l; answer = line.growOf l node .answer };
@@ -63,6 +67,7 @@ unchanging =
         space = line.byteSpaceOf;
         tick = λ l t. record { line = l; answer = line.tickOf l t .answer };
         ask = λ a l j. record { line = l; answer = askOf a l j .answer };
+        hit = line.lastHitOf;
       };
     }
 
@@ -75,6 +80,7 @@ counting k =
         byte = λ h b t n. record { head = head.byteOf h b t n .head; heard = heard.Replies k };
         space = head.byteSpaceOf;
         ask = alone.called;
+        hit = head.lastHitOf;
       };
       onLine = record {
         grow = line.growOf;
@@ -82,6 +88,7 @@ counting k =
         space = line.byteSpaceOf;
         tick = line.tickOf;
         ask = askOf;
+        hit = line.lastHitOf;
       };
     }
 
@@ -100,6 +107,7 @@ headSaying f =
       byte = head.byteOf;
       space = λ h b t s. respoken f (head.byteOf h b t (length s) .heard) (head.byteSpaceOf h b t s);
       ask = alone.called;
+      hit = head.lastHitOf;
     }
 
 abbrev pub lineSaying : (List ℕ → List ℕ) → OnLine
@@ -110,6 +118,7 @@ lineSaying f =
       space = λ l b t s. respoken f (line.byteOf l b t (length s) .heard) (line.byteSpaceOf l b t s);
       tick = line.tickOf;
       ask = askOf;
+      hit = line.lastHitOf;
     }
 
 -- the same reply always
@@ -255,6 +264,7 @@ hasty =
         space = line.byteSpaceOf;
         tick = line.tickOf;
         ask = askOf;
+        hit = line.lastHitOf;
       };
     }
 

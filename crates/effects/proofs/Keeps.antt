@@ -7,7 +7,7 @@ use native.Mathlib.Omega.{arith}
 use mathlib.Core.Path.{_≡_, refl}
 use mathlib.Core.Bool.{Bool, true, false, cond, not, _&&_, and-eq-true-iff}
 use mathlib.Core.List.{List, [], _∷_}
-use lib.Dec.{ltb}
+use lib.Dec.{ltb, eqb}
 use lib.IntN.{ℤ, pos}
 use lib.ListN.{length, getD}
 use borrow.Author.Tests.{ltb-true}
@@ -32,7 +32,7 @@ use Rattle.state.specs.Errors.{emptyList}
 use Rattle.state.specs.Wellformed.{inReachOf, storedFits, faultsFit, measurementFits, earFits, wellformedOf}
 use Rattle.state.proofs.Laws.{stored-told, stored-holds, faults-told, faults-holds, measurement-told, measurement-holds, ear-holds, told, holds, remembered-few, small-reach, shown-small}
 use Rattle.effects.specs.Stored.{resetValue, resetFrom, resetOf, restartedStored, storedBy}
-use Rattle.effects.specs.Faults.{withDamaged, withPending, raisedOf, countedOf, complainedOf, acknowledgedOf, restartedFaults, faultsBy}
+use Rattle.effects.specs.Faults.{withDamaged, withPending, withHit, raisedOf, damagedOf, countedOf, complainedOf, acknowledgedOf, restartedFaults, faultsBy}
 use Rattle.effects.specs.Measured.{calibratedOf, switchedOf, frozenOf, releasedOf, restartedMeasurement, movedOf, measurementBy}
 use Rattle.effects.specs.Restart.{emptyEar, restartedOf, deliveredOf, unpowered, freshOf}
 
@@ -91,15 +91,21 @@ raised-keeps f code h =
     let k = faults-told f h in
     faults-holds _ (record { memory = remembered-few (f .memory) code (k .memory); inputs = k .inputs; damaged = k .damaged })
 
-pub counted-keeps : (sound : Bool) (f : Faults) → faultsFit f ≡ true → faultsFit (countedOf sound f) ≡ true
-unfolding countedOf
-counted-keeps sound f h =
+none-damaged : (f : Faults) → faultsFit f ≡ true → faultsFit (withDamaged f 0) ≡ true
+none-damaged f h = let k = faults-told f h in faults-holds _ (record { memory = k .memory; inputs = k .inputs; damaged = omega arith })
+
+damaged-keeps : (f : Faults) → faultsFit f ≡ true → faultsFit (damagedOf f) ≡ true
+damaged-keeps f h =
     let k = faults-told f h in
-    let none : faultsFit (withDamaged f 0) ≡ true = faults-holds _ (record { memory = k .memory; inputs = k .inputs; damaged = omega arith }) in
-    either faultsFit sound _ _ (λ _. none)
-    (either faultsFit (ltb (f .damaged) 2) _ _
+    either faultsFit (ltb (f .damaged) 2) _ _
     (λ t. faults-holds _ (record { memory = k .memory; inputs = k .inputs; damaged = omega (arith, ltb-true (f .damaged) 2 t) }))
-    (raised-keeps (withDamaged f 0) (codeOf CheckSum) none))
+    (raised-keeps (withDamaged f 0) (codeOf CheckSum) (none-damaged f h))
+
+-- what is kept of a damaged telegram is any byte
+pub counted-keeps : (hit : ℕ) (f : Faults) → faultsFit f ≡ true → faultsFit (countedOf hit f) ≡ true
+unfolding countedOf faultsFit
+counted-keeps hit f h =
+    either faultsFit (eqb hit 0) (withDamaged f 0) (damagedOf (withHit f hit)) (λ _. none-damaged f h) (damaged-keeps (withHit f hit) h)
 
 pub complained-keeps : (v : Verdict) (f : Faults) → faultsFit f ≡ true → faultsFit (complainedOf v f) ≡ true
 unfolding complainedOf

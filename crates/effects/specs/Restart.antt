@@ -48,7 +48,7 @@ abbrev pub unpowered : ℕ → Head
 unpowered node =
     record {
       stored = record { values = deliveredOf node; number = 0; baud = 0; unlocked = false };
-      faults = record { memory = emptyList; inputs = emptyList; pending = 0; damaged = 0 };
+      faults = record { memory = emptyList; inputs = emptyList; pending = 0; hit = 0; damaged = 0 };
       measurement = record { m = pos 0; zero = pos 0; adopted = 0; incremental = false; start = pos 0; frozen = false; kept = pos 0 };
       targets = noTargets;
       monitor = stopped;

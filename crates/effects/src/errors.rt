@@ -1,4 +1,4 @@
-// The error part: remembered errors, input errors, the pending error, damaged telegrams in a row.
+// The error part: remembered errors, input errors, the pending error, what the last damaged telegram was hit by, damaged telegrams in a row.
 use crate::control;
 use judge::deed::Deed;
 use judge::verdict::Verdict;
@@ -20,15 +20,17 @@ pub fn raised(f: Faults, code: u16) -> Faults
     n
 }
 
-// Damaged telegrams in a row: the third raises an error, a sound one ends the row.
-pub fn counted(sound: bool, f: Faults) -> Faults
-    ensures { λ r. ⌜ r ≡ countedOf sound f ⌝ }
+// A telegram by the exclusive-or of its ten bytes: a sound one ends the row of damaged ones. A damaged one's is kept in the place of the last,
+// and the third in a row raises an error.
+pub fn counted(hit: u8, f: Faults) -> Faults
+    ensures { λ r. ⌜ r ≡ countedOf hit f ⌝ }
 {
     let mut n = f;
-    if sound {
+    if hit == 0 {
         n.damaged = 0;
         return n;
     }
+    n.hit = hit;
     if n.damaged < 2 {
         n.damaged = n.damaged + 1;
         return n;
@@ -72,6 +74,7 @@ pub fn restarted(f: Faults) -> Faults
     let l = errors::empty_list();
     n.inputs = l;
     n.pending = 0;
+    n.hit = 0;
     n.damaged = 0;
     n
 }

@@ -74,6 +74,7 @@ pub fn fresh(node: u32) -> Head
             memory: empty,
             inputs: empty,
             pending: 0,
+            hit: 0,
             damaged: 0,
         },
         measurement: Measurement {

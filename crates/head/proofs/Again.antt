@@ -7,7 +7,7 @@ use mathlib.Core.Path.{_≡_, refl}
 use mathlib.Core.Bool.{true, false, cond}
 use mathlib.Core.List.{List}
 use Rattle.wire.specs.declared.telegram.Telegram.{Telegram}
-use Rattle.wire.specs.Check.{soundOf}
+use Rattle.wire.specs.Check.{hitOf}
 use Rattle.wire.specs.Telegram.{fieldsOf}
 use Rattle.rows.specs.declared.kind.Kind.{Kind}
 use Rattle.rows.specs.declared.kind.Kind.the-variants.{WriteOnly}
@@ -62,8 +62,8 @@ restart-obeyed (Refused f) c k t e = let z : _≡_ {A = ℕ} 0 1 = cc in absurd 
 pub restart-told : (ten : List ℕ) (s : Standing) (h : Head) (t : ℕ) → judgedOf ten s .deed ≡ Restart → toldOf (judgedOf ten s) h t ≡ restartedOf h
 unfolding judgedOf toldOf storedBy countedOf complainedOf restartedFaults faultsBy measurementBy targetsBy restartsOf restartedOf
 restart-told ten s h t e =
-    let o = restart-obeyed (verdictOf (soundOf ten) (fieldsOf ten) s) _ _ (fieldsOf ten) e in
-    rw (e, o, obeyed-sound (soundOf ten) (fieldsOf ten) s o)
+    let o = restart-obeyed (verdictOf (hitOf ten) (fieldsOf ten) s) _ _ (fieldsOf ten) e in
+    rw (e, o, obeyed-sound (hitOf ten) (fieldsOf ten) s o)
 
 system-kind : kindOf 0xA0 ≡ WriteOnly System
 unfolding kindOf placeOf rows otherOf

@@ -8,7 +8,7 @@ use mathlib.Core.List.{List}
 use borrow.Author.Tests.{ltb-true, leb-true}
 use lib.Dec.{leb, ltb, eqb}
 use lib.IntN.{ℤ}
-use Rattle.wire.specs.Check.{soundOf}
+use Rattle.wire.specs.Check.{hitOf}
 use Rattle.wire.specs.Faults.{codeOf}
 use Rattle.wire.specs.declared.fault.Fault.the-variants.{Timeout}
 use Rattle.wire.specs.Telegram.{fieldsOf}
@@ -40,7 +40,7 @@ affected-fits j h at s f =
     holds (affectedOf j h at)
     (record {
       stored = stored-keeps (j .deed) (h .stored) s (w .stored);
-      faults = faults-keeps (j .deed) (h .targets .word) _ (complained-keeps (j .verdict) _ (counted-keeps (j .sound) _ (w .faults)));
+      faults = faults-keeps (j .deed) (h .targets .word) _ (complained-keeps (j .verdict) _ (counted-keeps (j .hit) _ (w .faults)));
       measurement = measurement-keeps (j .deed) (h .stored .values) (h .measurement) (stored-told (h .stored) (w .stored) .values) (w .measurement);
       ear = empty-ear-fits at;
       keys = w .keys;
@@ -65,7 +65,7 @@ ear-fits h e k f =
 tell-fits : (h : Head) (ten : List ℕ) (at : ℕ) → Fit h → Fit (tellOf h ten at .head)
 unfolding tellOf judgedOf
 tell-fits h ten at f =
-    told-fits (judgedOf ten (standingOf h)) h at (λ i w e. stored-fits (soundOf ten) (fieldsOf ten) (standingOf h) e .1) f
+    told-fits (judgedOf ten (standingOf h)) h at (λ i w e. stored-fits (hitOf ten) (fieldsOf ten) (standingOf h) e .1) f
 
 by-fits : (h : Head) (b at : ℕ) (e : Ear) → earFits e ≡ true → Fit h → Fit (stepBy h (gatheredOn e b at) at .head)
 by-fits h b at e k f = go (ltb (e .count) 9) refl

@@ -2,12 +2,13 @@
 -- does nothing but count and start the monitor.
 -- Assumes nothing.
 use Prim.Native.Nat.{ℕ}
-use mathlib.Core.Path.{_≡_, refl, sym, _∙_}
+use mathlib.Core.Path.{_≡_, refl, _∙_}
 use mathlib.Core.Bool.{Bool, true, false, not, and-eq-true-iff}
 use mathlib.Core.List.{List}
+use borrow.Author.Tests.{eqb-true}
 use lib.Dec.{eqb}
 use lib.ListN.{getD, replicate}
-use Rattle.wire.specs.Check.{soundOf}
+use Rattle.wire.specs.Check.{hitOf}
 use Rattle.wire.specs.Telegram.{fieldsOf}
 use Rattle.judge.specs.declared.verdict.Verdict.the-variants.{Silent}
 use Rattle.judge.specs.Checks.{_else_, sumCheck, nodeCheck}
@@ -15,6 +16,7 @@ use Rattle.judge.specs.Commands.{commandOf, castsOf}
 use Rattle.judge.specs.Deeds.{deedOf}
 use Rattle.judge.specs.Judged.{judgedOf}
 use Rattle.judge.specs.Verdicts.{verdictOf}
+use Rattle.judge.proofs.Laws.{casts-is}
 use Rattle.state.specs.declared.parts.Head.{Head}
 use Rattle.effects.specs.Stored.{storedBy}
 use Rattle.effects.specs.Faults.{complainedOf, faultsBy}
@@ -33,20 +35,14 @@ off : (b : Bool) → not b ≡ true → b ≡ false
 off true e = cc
 off false e = refl
 
-no-cast : (b : ℕ) (x y : Bool) → eqb b 0 ≡ x → eqb b 1 ≡ y → eqb b 2 ≡ false → castsOf (commandOf b) ≡ false
-unfolding commandOf
-no-cast b true y p q r = rw p
-no-cast b false true p q r = rw (p, q)
-no-cast b false false p q r = rw (p, q, r)
-
 module _ (ten : List ℕ) (h : Head) (at : ℕ) where
   -- the verdict is silence, which does nothing more
-  hushed : soundOf ten ≡ true → castsOf (commandOf (fieldsOf ten .command)) ≡ false → eqb (fieldsOf ten .node) (h .stored .number) ≡ false
-      → verdictOf (soundOf ten) (fieldsOf ten) (standingOf h) ≡ Silent
+  hushed : hitOf ten ≡ 0 → castsOf (commandOf (fieldsOf ten .command)) ≡ false → eqb (fieldsOf ten .node) (h .stored .number) ≡ false
+      → verdictOf (hitOf ten) (fieldsOf ten) (standingOf h) ≡ Silent
   unfolding verdictOf sumCheck nodeCheck _else_ standingOf
   hushed s c n = rw (s, c, n)
 
-  silent : soundOf ten ≡ true → verdictOf (soundOf ten) (fieldsOf ten) (standingOf h) ≡ Silent → tellOf h ten at ≡ unanswered (passedOf h at)
+  silent : hitOf ten ≡ 0 → verdictOf (hitOf ten) (fieldsOf ten) (standingOf h) ≡ Silent → tellOf h ten at ≡ unanswered (passedOf h at)
   unfolding tellOf toldOf passedOf judgedOf deedOf storedBy faultsBy complainedOf measurementBy targetsBy restartsOf replyOf silence
   silent s v = rw (v, s)
 
@@ -56,7 +52,8 @@ module _ (ten : List ℕ) (h : Head) (at : ℕ) where
   passes-tell e =
       let b = and-eq-true-iff _ _ .0 e in
       let c = and-eq-true-iff _ _ .0 (b .1) in
-      silent (b .0) (hushed (b .0) (no-cast (getD ten 0 0) _ _ refl refl (off _ (c .0))) (off _ (c .1)))
+      let s = eqb-true (hitOf ten) 0 (b .0) in
+      silent s (hushed s (casts-is (getD ten 0 0) ∙ off _ (c .0)) (off _ (c .1)))
 
 -- the two ways of a byte, by what was gathered: it ends no telegram, or one that is told
 module _ (h : Head) (b at : ℕ) (g : Gathered) (e : g ≡ gatheredOf (h .ear) b at) where

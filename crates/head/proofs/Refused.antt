@@ -1,5 +1,5 @@
--- A refused call changes nothing; a refused telegram changes only what document 01 lists; a call on a well-formed head is never refused
--- with 20.
+-- A refused call changes nothing; a refused telegram changes only what document 01 lists and the last non-zero exclusive-or (document 02, request
+-- (i)); a call on a well-formed head is never refused with 20.
 -- Assumes nothing.
 use Prim.Native.Nat.{ℕ}
 use mathlib.Core.Path.{_≡_, refl, sym, _∙_}
@@ -10,7 +10,7 @@ use mathlib.Core.Option.{Option, none, some}
 use native.Mathlib.Omega.{arith}
 use lib.Dec.{ltb}
 use lib.ListN.{length}
-use Rattle.wire.specs.Check.{soundOf}
+use Rattle.wire.specs.Check.{hitOf}
 use Rattle.wire.specs.Telegram.{fieldsOf}
 use Rattle.wire.specs.declared.fault.Fault.{Fault}
 use Rattle.judge.specs.declared.judged.Judged.{Judged}
@@ -67,16 +67,16 @@ refused-nothing (asked a) h {why} e = record { head = called-same a h why (go (c
     go answer.Done e = never e
     go (answer.Refused w) e = cc
 
--- ---- a refused telegram, or one that is not for this head, changes only the count of damaged ones with error 0080h and its list, the
--- input list, the monitor, and the bytes gathered
-abbrev untold : Verdict → Bool → Head → ℕ → Head
-untold v sound h at =
+-- ---- a refused telegram, or one that is not for this head, changes only the count of damaged ones with error 0080h and its list, the last
+-- non-zero exclusive-or, the input list, the monitor, and the bytes gathered
+abbrev untold : Verdict → ℕ → Head → ℕ → Head
+untold v hit h at =
     record {
       stored = h .stored;
-      faults = complainedOf v (countedOf sound (h .faults));
+      faults = complainedOf v (countedOf hit (h .faults));
       measurement = h .measurement;
       targets = h .targets;
-      monitor = startedOf sound at (h .monitor);
+      monitor = startedOf hit at (h .monitor);
       ear = emptyEar at;
       keys = h .keys;
     }
@@ -86,14 +86,14 @@ pub data Unheeded : Verdict → Type 0 where
   silent : Unheeded Silent
   refused : {f : Fault} → Unheeded (Refused f)
 
-idle : (j : Judged) (h : Head) (at : ℕ) → j .deed ≡ Nothing → toldOf j h at ≡ untold (j .verdict) (j .sound) h at
+idle : (j : Judged) (h : Head) (at : ℕ) → j .deed ≡ Nothing → toldOf j h at ≡ untold (j .verdict) (j .hit) h at
 unfolding toldOf storedBy faultsBy measurementBy targetsBy restartsOf
 idle j h at e = rw e
 
 pub unheeded-only : (h : Head) (ten : List ℕ) (at : ℕ) → let j = judgedOf ten (standingOf h) in
-    Unheeded (j .verdict) → toldOf j h at ≡ untold (j .verdict) (j .sound) h at
+    Unheeded (j .verdict) → toldOf j h at ≡ untold (j .verdict) (j .hit) h at
 unfolding judgedOf deedOf
-unheeded-only h ten at u = idle (judgedOf ten (standingOf h)) h at (quiet (verdictOf (soundOf ten) (fieldsOf ten) (standingOf h)) u)
+unheeded-only h ten at u = idle (judgedOf ten (standingOf h)) h at (quiet (verdictOf (hitOf ten) (fieldsOf ten) (standingOf h)) u)
   where
     quiet : (v : Verdict) → Unheeded v → judgedAs (fieldsOf ten) ten v .deed ≡ Nothing
     quiet Silent silent = refl

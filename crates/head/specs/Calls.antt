@@ -20,6 +20,8 @@ use Rattle.head.specs.declared.calls.Called.{Called}
 use Rattle.head.specs.declared.calls.Heard.{Heard}
 use Rattle.head.specs.declared.calls.Heard.the-variants as heard
 use Rattle.head.specs.declared.calls.Fed.{Fed}
+use Rattle.head.specs.declared.calls.Hit.{Hit}
+use Rattle.head.specs.declared.calls.Hit.the-variants as hit
 use Rattle.head.specs.declared.hear.Stepped.{Stepped}
 use Rattle.head.specs.Hear.{stepOf}
 use Rattle.head.specs.Moves.{tickedOf, measuredOf, keyedOf}
@@ -89,3 +91,7 @@ keysOf h state = askedOf h ((leb state 7, Keys) ∷ []) (keyedOf h state)
 -- power: a restart
 unfoldable pub powerOf : Head → Called
 powerOf h = askedOf h [] (restartedOf h)
+
+-- the last non-zero exclusive-or, 0 where there is none (document 02, request (i)): 20, then what is kept, whatever byte that is
+unfoldable pub lastHitOf : Head → Hit
+lastHitOf h = guarded hit.Refused ((wellformedOf h, Malformed) ∷ []) (hit.Bits (h .faults .hit))

@@ -6,7 +6,7 @@ use mathlib.Core.Bool.{Bool, true, false, cond, not, _&&_}
 use mathlib.Core.List.{List}
 use lib.Dec.{eqb, ltb}
 use lib.ListN.{getD, set, replicate}
-use Rattle.wire.specs.Check.{soundOf}
+use Rattle.wire.specs.Check.{hitOf}
 use Rattle.judge.specs.declared.deed.Deed.{Deed}
 use Rattle.judge.specs.declared.deed.Deed.the-variants.{Nothing, Store, Reset, Restart, Calibrate, Forget, Unlock, Freeze, Aim1, Aim2, ClearStatic, Release}
 use Rattle.judge.specs.declared.judged.Judged.{Judged}
@@ -66,18 +66,18 @@ restartsOf ClearStatic = false
 restartsOf Release = false
 
 -- a sound telegram, for whomever, starts the monitor
-unfoldable pub startedOf : Bool → ℕ → Monitor → Monitor
-startedOf sound at m = cond sound (record { running = true; since = at }) m
+unfoldable pub startedOf : ℕ → ℕ → Monitor → Monitor
+startedOf hit at m = cond (eqb hit 0) (record { running = true; since = at }) m
 
 -- the head after a telegram's own effects: each part by its own
 abbrev pub affectedOf : Judged → Head → ℕ → Head
 affectedOf j h at =
     record {
       stored = storedBy (j .deed) (h .stored);
-      faults = faultsBy (j .deed) (h .targets .word) (complainedOf (j .verdict) (countedOf (j .sound) (h .faults)));
+      faults = faultsBy (j .deed) (h .targets .word) (complainedOf (j .verdict) (countedOf (j .hit) (h .faults)));
       measurement = measurementBy (j .deed) (h .stored .values) (h .measurement);
       targets = targetsBy (j .deed) (h .stored .values) (h .measurement) (h .targets);
-      monitor = startedOf (j .sound) at (h .monitor);
+      monitor = startedOf (j .hit) at (h .monitor);
       ear = emptyEar at;
       keys = h .keys;
     }
@@ -95,16 +95,16 @@ tellOf h ten at = stepped (toldOf (judgedOf ten (standingOf h)) h at) (replyOf (
 
 -- sound, no broadcast, and the node byte is not this number: what such a telegram does is `passedOf`, with no reply
 unfoldable pub passesOf : List ℕ → ℕ → Bool
-passesOf ten number = soundOf ten && (not (eqb (getD ten 0 0) 2) && not (eqb (getD ten 1 0) number))
+passesOf ten number = eqb (hitOf ten) 0 && (not (eqb (getD ten 0 0) 2) && not (eqb (getD ten 1 0) number))
 
 unfoldable pub passedOf : Head → ℕ → Head
 passedOf h at =
     record {
       stored = h .stored;
-      faults = countedOf true (h .faults);
+      faults = countedOf 0 (h .faults);
       measurement = h .measurement;
       targets = h .targets;
-      monitor = startedOf true at (h .monitor);
+      monitor = startedOf 0 at (h .monitor);
       ear = emptyEar at;
       keys = h .keys;
     }

@@ -10,7 +10,7 @@ ghost use mathlib.Core.Bool.{Bool};
 ghost use Prim.Native.Nat.{_≤_};
 ghost use lib.ListN.{length};
 ghost use Rattle.effects.specs.Restart.{freshOf};
-ghost use Rattle.head.specs.Calls.{nodeFits, factoryOf, madeOf, doneWith, refusedWith, laidOn, byteOf, byteSpaceOf, tickOf, measureOf, keysOf, powerOf};
+ghost use Rattle.head.specs.Calls.{nodeFits, factoryOf, madeOf, doneWith, refusedWith, laidOn, byteOf, byteSpaceOf, tickOf, measureOf, keysOf, powerOf, lastHitOf};
 
 pub enum Answer {
     Done,
@@ -32,6 +32,12 @@ pub enum Heard {
 pub struct Fed {
     pub head: Head,
     pub heard: Heard,
+}
+
+// Which bits of the last damaged telegram were hit: its exclusive-or, 0 where there was none since the restart.
+pub enum Hit {
+    Bits(u8),
+    Refused(Refusal),
 }
 
 // The head as the factory delivers it, at 31.
@@ -169,6 +175,17 @@ pub fn power(h: Head) -> Called
         return done(restart::restarted(h));
     }
     refused(h, Refusal::Malformed)
+}
+
+// What the last damaged telegram was hit by; whoever asks changes nothing.
+pub fn last_hit(h: Head) -> Hit
+    ensures { λ r. ⌜ r ≡ lastHitOf h ⌝ }
+{
+    if wellformed::wellformed(h) {
+        let f = h.faults;
+        return Hit::Bits(f.hit);
+    }
+    Hit::Refused(Refusal::Malformed)
 }
 
 // The node number in force, which a new 00h changes only at a restart.

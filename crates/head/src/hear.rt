@@ -87,10 +87,10 @@ fn restarts(d: Deed) -> bool
 }
 
 // A sound telegram, for whomever, starts the monitor.
-fn started(sound: bool, at: u32, m: Monitor) -> Monitor
-    ensures { λ r. ⌜ r ≡ startedOf sound at m ⌝ }
+fn started(hit: u8, at: u32, m: Monitor) -> Monitor
+    ensures { λ r. ⌜ r ≡ startedOf hit at m ⌝ }
 {
-    if sound {
+    if hit == 0 {
         return Monitor {
             running: true,
             since: at,
@@ -109,13 +109,13 @@ fn affected(j: Judged, h: Head, at: u32) -> Head
     let v = s.values;
     let t = h.targets;
     let g = h.measurement;
-    let f = errors::complained(w, errors::counted(j.sound, h.faults));
+    let f = errors::complained(w, errors::counted(j.hit, h.faults));
     let mut n = h;
     n.stored = store::stored_by(d, s);
     n.faults = errors::faults_by(d, t.word, f);
     n.measurement = measure::measurement_by(d, v, g);
     n.targets = aim::targets_by(d, v, g, t);
-    n.monitor = started(j.sound, at, h.monitor);
+    n.monitor = started(j.hit, at, h.monitor);
     n.ear = restart::empty_ear(at);
     n
 }
@@ -144,7 +144,7 @@ pub struct Stepped {
 fn passes(ten: [u8; 10], number: u32) -> bool
     ensures { λ r. ⌜ r ≡ passesOf ten number ⌝ }
 {
-    wire::check::sound(ten) & ((ten[0] != 2) & (ten[1] as u32 != number))
+    (wire::check::hit(ten) == 0) & ((ten[0] != 2) & (ten[1] as u32 != number))
 }
 
 // The head after such a telegram.
@@ -152,8 +152,8 @@ fn passed(h: Head, at: u32) -> Head
     ensures { λ r. ⌜ r ≡ passedOf h at ⌝ }
 {
     let mut n = h;
-    n.faults = errors::counted(true, h.faults);
-    n.monitor = started(true, at, h.monitor);
+    n.faults = errors::counted(0, h.faults);
+    n.monitor = started(0, at, h.monitor);
     n.ear = restart::empty_ear(at);
     n
 }

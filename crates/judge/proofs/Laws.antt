@@ -5,6 +5,7 @@ use mathlib.Core.Bool.{Bool, true, false, cond, not, _&&_, _||_, and-assoc, and-
 use mathlib.Core.List.{[], _∷_}
 use mathlib.Core.Logic.{_⊎_, inl, inr, ⊎-elim}
 use Prim.Native.Nat.{ℕ, _<_}
+use borrow.Author.Tests.{eqb-true}
 use lib.Dec.{eqb, ltb}
 use types.Run.{OneOf, miss}
 use denote.Enum.Declared.{tagOf}
@@ -74,18 +75,29 @@ node-refused Broadcast mine v {f} h = go v h
 node-refused Other true v h = refl
 node-refused Other false v h = cc
 
-pub refused-plain : (sound : Bool) (t : Telegram) (s : Standing) {f : Fault} →
-    verdictOf sound t s ≡ Refused f → (mineOf t s && not (castsOf (commandOf (t .command)))) ≡ true
+pub refused-plain : (hit : ℕ) (t : Telegram) (s : Standing) {f : Fault} →
+    verdictOf hit t s ≡ Refused f → (mineOf t s && not (castsOf (commandOf (t .command)))) ≡ true
 unfolding verdictOf lateOf sumCheck
-refused-plain sound t s h =
-    ⊎-elim (λ e. sum-refused sound _ e) (λ e. node-refused (commandOf (t .command)) (mineOf t s) _ (e .1)) (else-refused _ _ h)
+refused-plain hit t s h =
+    ⊎-elim (λ e. sum-refused (eqb hit 0) _ e) (λ e. node-refused (commandOf (t .command)) (mineOf t s) _ (e .1)) (else-refused _ _ h)
 
-pub refused-mine : (sound : Bool) (t : Telegram) (s : Standing) {f : Fault} → verdictOf sound t s ≡ Refused f → mineOf t s ≡ true
-refused-mine sound t s h = and-eq-true-iff (mineOf t s) _ .0 (refused-plain sound t s h) .0
+pub refused-mine : (hit : ℕ) (t : Telegram) (s : Standing) {f : Fault} → verdictOf hit t s ≡ Refused f → mineOf t s ≡ true
+refused-mine hit t s h = and-eq-true-iff (mineOf t s) _ .0 (refused-plain hit t s h) .0
 
-pub cast-never-refused : (sound : Bool) (t : Telegram) (s : Standing) (f : Fault) →
-    commandOf (t .command) ≡ Broadcast → verdictOf sound t s ≡ Refused f → ⊥
-cast-never-refused sound t s f c h = true≢false (sym (rw (c, refused-mine sound t s h) at (refused-plain sound t s h)))
+pub cast-never-refused : (hit : ℕ) (t : Telegram) (s : Standing) (f : Fault) →
+    commandOf (t .command) ≡ Broadcast → verdictOf hit t s ≡ Refused f → ⊥
+cast-never-refused hit t s f c h = true≢false (sym (rw (c, refused-mine hit t s h) at (refused-plain hit t s h)))
+
+-- ---- a command is a broadcast just if its byte is 02h
+pub casts-is : (c : ℕ) → castsOf (commandOf c) ≡ eqb c 2
+unfolding commandOf
+casts-is c = go (eqb c 0) (eqb c 1) (eqb c 2) refl refl refl
+  where
+    go : (x y z : Bool) → eqb c 0 ≡ x → eqb c 1 ≡ y → eqb c 2 ≡ z → castsOf (commandOf c) ≡ eqb c 2
+    go true y z p q r = rw (eqb-true c 0 p)
+    go false true z p q r = rw (eqb-true c 1 q)
+    go false false true p q r = rw (p, q, r)
+    go false false false p q r = rw (p, q, r)
 
 -- ---- a telegram is obeyed where each check lets it pass
 abbrev pub isObeyed : Verdict → Bool
@@ -99,14 +111,14 @@ else-is Obeyed b = refl
 else-is Silent b = refl
 else-is (Refused f) b = refl
 
-sum-is : (sound : Bool) (c : Command) (mine : Bool) → isObeyed (sumCheck sound c mine) ≡ sound
+sum-is : (hit : ℕ) (c : Command) (mine : Bool) → isObeyed (sumCheck hit c mine) ≡ eqb hit 0
 unfolding sumCheck
-sum-is true c mine = refl
-sum-is false c mine = go (mine && not (castsOf c))
+sum-is hit c mine = go (eqb hit 0) (mine && not (castsOf c))
   where
-    go : (b : Bool) → isObeyed (cond b (Refused CheckSum) Silent) ≡ false
-    go true = refl
-    go false = refl
+    go : (sound b : Bool) → isObeyed (cond sound Obeyed (cond b (Refused CheckSum) Silent)) ≡ sound
+    go true b = refl
+    go false true = refl
+    go false false = refl
 
 node-is : (c : Command) (mine : Bool) → isObeyed (nodeCheck c mine) ≡ castsOf c || mine
 unfolding nodeCheck
@@ -141,7 +153,7 @@ right-only High h = cc
 right-only Between h = cc
 
 -- the ordered checks, as one conjunction of their tests
-module _ (sound : Bool) (t : Telegram) (s : Standing) where
+module _ (hit : ℕ) (t : Telegram) (s : Standing) where
   abbrev c : Command
   c = commandOf (t .command)
 
@@ -162,20 +174,20 @@ module _ (sound : Bool) (t : Telegram) (s : Standing) where
   abbrev counted : Bool
   counted = not (eqb (t .parameter) 0x96 && ltb (s .inputs) (byte0 (t .value)))
 
-  pub obeyed-is : isObeyed (verdictOf sound t s) ≡ sound && ((castsOf c || mineOf t s) && (allowed && (unlocked && (right && counted))))
+  pub obeyed-is : isObeyed (verdictOf hit t s) ≡ eqb hit 0 && ((castsOf c || mineOf t s) && (allowed && (unlocked && (right && counted))))
   unfolding verdictOf lateOf lockCheck valueCheck numberCheck
   obeyed-is = simp (else-is, sum-is, node-is, hush-is, value-is, test-is, and-assoc)
 
-  module _ (h : verdictOf sound t s ≡ Obeyed) where
-    tests : (sound ≡ true) × ((castsOf c || mineOf t s) ≡ true) × (right ≡ true)
+  module _ (h : verdictOf hit t s ≡ Obeyed) where
+    tests : (eqb hit 0 ≡ true) × ((castsOf c || mineOf t s) ≡ true) × (right ≡ true)
     tests =
-        let one = and-eq-true-iff sound _ .0 (sym obeyed-is ∙ ap isObeyed h) in
+        let one = and-eq-true-iff (eqb hit 0) _ .0 (sym obeyed-is ∙ ap isObeyed h) in
         let two = and-eq-true-iff (castsOf c || mineOf t s) _ .0 (one .1) in
         let six = and-eq-true-iff unlocked _ .0 (and-eq-true-iff allowed _ .0 (two .1) .1) in
         (one .0, two .0, and-eq-true-iff right _ .0 (six .1) .0)
 
-    pub obeyed-sound : sound ≡ true
-    obeyed-sound = tests .0
+    pub obeyed-sound : hit ≡ 0
+    obeyed-sound = eqb-true hit 0 (tests .0)
 
     pub obeyed-mine : (castsOf c || mineOf t s) ≡ true
     obeyed-mine = tests .1
@@ -184,10 +196,10 @@ module _ (sound : Bool) (t : Telegram) (s : Standing) where
     obeyed-range changes = right-only _ (rw changes at (tests .2))
 
 -- ---- what is stored lies in its row
-pub stored-fits : (sound : Bool) (t : Telegram) (s : Standing) {i w : ℕ} →
-    deedOf (verdictOf sound t s) (commandOf (t .command)) (kindOf (t .parameter)) t ≡ Store i w →
+pub stored-fits : (hit : ℕ) (t : Telegram) (s : Standing) {i w : ℕ} →
+    deedOf (verdictOf hit t s) (commandOf (t .command)) (kindOf (t .parameter)) t ≡ Store i w →
     (i < 39) × (fitsIn (rowOf i) w ≡ true)
-stored-fits sound t s {i} {w} h =
+stored-fits hit t s {i} {w} h =
     let d = stored-by i w _ _ _ t h in
     let p = stored-place (t .parameter) (d .2) in
-    (place-below (t .parameter) p, rw (d .3) at (range-fits (t .parameter) (t .value) p (obeyed-range sound t s (d .0) (d .1))))
+    (place-below (t .parameter) p, rw (d .3) at (range-fits (t .parameter) (t .value) p (obeyed-range hit t s (d .0) (d .1))))

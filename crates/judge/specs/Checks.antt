@@ -25,8 +25,8 @@ Silent else v = Silent
 Refused f else v = Refused f
 
 -- 1. exclusive-or not 0: answered only if the node byte is the number in force and the command is not 02h
-unfoldable pub sumCheck : Bool → Command → Bool → Verdict
-sumCheck sound c mine = cond sound Obeyed (cond (mine && not (castsOf c)) (Refused CheckSum) Silent)
+unfoldable pub sumCheck : ℕ → Command → Bool → Verdict
+sumCheck hit c mine = cond (eqb hit 0) Obeyed (cond (mine && not (castsOf c)) (Refused CheckSum) Silent)
 
 -- 2. not a broadcast, and the node byte is not the number in force
 unfoldable pub nodeCheck : Command → Bool → Verdict

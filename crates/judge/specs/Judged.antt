@@ -3,7 +3,7 @@
 use Prim.Native.Nat.{ℕ}
 use mathlib.Core.List.{List}
 use Rattle.wire.specs.declared.telegram.Telegram.{Telegram}
-use Rattle.wire.specs.Check.{soundOf}
+use Rattle.wire.specs.Check.{hitOf}
 use Rattle.wire.specs.Telegram.{fieldsOf}
 use Rattle.rows.specs.Kinds.{kindOf}
 use Rattle.judge.specs.declared.verdict.Standing.{Standing}
@@ -18,7 +18,7 @@ abbrev pub judgedAs : Telegram → List ℕ → Verdict → Judged
 judgedAs t ten v =
     record {
       telegram = t;
-      sound = soundOf ten;
+      hit = hitOf ten;
       command = commandOf (t .command);
       kind = kindOf (t .parameter);
       verdict = v;
@@ -26,4 +26,4 @@ judgedAs t ten v =
     }
 
 unfoldable pub judgedOf : List ℕ → Standing → Judged
-judgedOf ten s = judgedAs (fieldsOf ten) ten (verdictOf (soundOf ten) (fieldsOf ten) s)
+judgedOf ten s = judgedAs (fieldsOf ten) ten (verdictOf (hitOf ten) (fieldsOf ten) s)

@@ -29,9 +29,9 @@ lateOf t s =
 abbrev pub mineOf : Telegram → Standing → Bool
 mineOf t s = eqb (t .node) (s .number)
 
--- checks 1 and 2, then the others; sound: the exclusive-or of the ten bytes is 0
-unfoldable pub verdictOf : Bool → Telegram → Standing → Verdict
-verdictOf sound t s =
-    sumCheck sound (commandOf (t .command)) (mineOf t s)
+-- checks 1 and 2, then the others; hit is the exclusive-or of the ten bytes
+unfoldable pub verdictOf : ℕ → Telegram → Standing → Verdict
+verdictOf hit t s =
+    sumCheck hit (commandOf (t .command)) (mineOf t s)
     else nodeCheck (commandOf (t .command)) (mineOf t s)
     else lateOf t s

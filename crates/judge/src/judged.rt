@@ -14,7 +14,7 @@ ghost use Rattle.judge.specs.Judged.{judgedOf};
 #[repr(C)]
 pub struct Judged {
     pub telegram: Telegram,
-    pub sound: bool,
+    pub hit: u8,
     pub command: Command,
     pub kind: Kind,
     pub verdict: Verdict,
@@ -25,14 +25,14 @@ pub fn judge(ten: [u8; 10], s: Standing) -> Judged
     ensures { λ r. ⌜ r ≡ judgedOf ten s ⌝ }
 {
     let t = wire::telegram::fields(ten);
-    let sound = wire::check::sound(ten);
+    let hit = wire::check::hit(ten);
     let c = command::command_of(t.command);
     let k = rows::kind::kind_of(t.parameter);
-    let v = verdict::verdict_of(sound, t, s);
+    let v = verdict::verdict_of(hit, t, s);
     let d = deed::deed_of(v, c, k, t);
     Judged {
         telegram: t,
-        sound: sound,
+        hit: hit,
         command: c,
         kind: k,
         verdict: v,

@@ -38,10 +38,10 @@ fn first(a: Verdict, b: Verdict) -> Verdict
 }
 
 // 1. Damaged: answered only at the number in force, and not a broadcast.
-fn check_sum(sound: bool, c: Command, mine: bool) -> Verdict
-    ensures { λ r. ⌜ r ≡ sumCheck sound c mine ⌝ }
+fn check_sum(hit: u8, c: Command, mine: bool) -> Verdict
+    ensures { λ r. ⌜ r ≡ sumCheck hit c mine ⌝ }
 {
-    if sound {
+    if hit == 0 {
         return Verdict::Obeyed;
     }
     if mine & !command::casts(c) {
@@ -193,13 +193,13 @@ fn late(t: Telegram, s: Standing) -> Verdict
     hush(c, first(above, first(known, first(access, last))))
 }
 
-// All seven, of a telegram that is sound or not. The late ones are looked at only where the first two let it pass.
-pub fn verdict_of(sound: bool, t: Telegram, s: Standing) -> Verdict
-    ensures { λ r. ⌜ r ≡ verdictOf sound t s ⌝ }
+// All seven, of a telegram and the exclusive-or of its ten bytes. The late ones are looked at only where the first two let it pass.
+pub fn verdict_of(hit: u8, t: Telegram, s: Standing) -> Verdict
+    ensures { λ r. ⌜ r ≡ verdictOf hit t s ⌝ }
 {
     let c = command::command_of(t.command);
     let mine = t.node as u32 == s.number;
-    let early = first(check_sum(sound, c, mine), check_node(c, mine));
+    let early = first(check_sum(hit, c, mine), check_node(c, mine));
     if let Verdict::Obeyed = early {
         return late(t, s);
     }

@@ -13,6 +13,8 @@ use Rattle.head.specs.declared.refusal.Refusal.the-variants.{Node, Full, NoHead
 use Rattle.head.specs.declared.calls.Answer.the-variants as answer
 use Rattle.head.specs.declared.calls.Heard.the-variants as heard
 use Rattle.head.specs.declared.calls.Called as alone
+use Rattle.head.specs.declared.calls.Hit.{Hit}
+use Rattle.head.specs.declared.calls.Hit.the-variants as hit
 use Rattle.head.specs.Calls as head
 use Rattle.head.specs.Calls.{Tests, guarded, factoryOf, nodeFits, laidOn}
 use Rattle.line.specs.declared.calls.Line.{Line}
@@ -100,3 +102,7 @@ keysOf l i state = namedOf l i (head.keysOf (headAt l i) state)
 
 unfoldable pub powerOf : Line → ℕ → Called
 powerOf l i = namedOf l i (head.powerOf (headAt l i))
+
+-- the last non-zero exclusive-or of one head: it names the head too, and hands back no line
+unfoldable pub lastHitOf : Line → ℕ → Hit
+lastHitOf l i = guarded hit.Refused (namedTests l i) (head.lastHitOf (headAt l i))

@@ -4,6 +4,7 @@ use effects::restart;
 use head::calls;
 use head::calls::Answer;
 use head::calls::Heard;
+use head::calls::Hit;
 use head::hear;
 use head::moves;
 use head::refusal::Refusal;
@@ -12,7 +13,7 @@ use state::wellformed;
 ghost use mathlib.Core.Path.{_≡_};
 ghost use mathlib.Core.Bool.{Bool};
 ghost use lib.ListN.{length};
-ghost use Rattle.line.specs.Calls.{emptyOf, fitsOf, doneWith, refusedWith, headAt, placedOf, growOf, byteOf, byteSpaceOf, tickOf, namedOf, measureOf, keysOf, powerOf};
+ghost use Rattle.line.specs.Calls.{emptyOf, fitsOf, doneWith, refusedWith, headAt, placedOf, growOf, byteOf, byteSpaceOf, tickOf, namedOf, measureOf, keysOf, powerOf, lastHitOf};
 
 // Eight places for heads, of which the first `count` are on the wire.
 #[repr(C)]
@@ -233,4 +234,17 @@ pub fn power(l: Line, i: usize) -> Called
     ensures { λ r. ⌜ r ≡ powerOf l i ⌝ }
 {
     named(l, i, calls::power(head_at(l, i)))
+}
+
+// What the last damaged telegram that one head heard was hit by.
+pub fn last_hit(l: Line, i: usize) -> Hit
+    ensures { λ r. ⌜ r ≡ lastHitOf l i ⌝ }
+{
+    if fits(l) {
+        if i < l.count {
+            return calls::last_hit(head_at(l, i));
+        }
+        return Hit::Refused(Refusal::NoHead);
+    }
+    Hit::Refused(Refusal::Malformed)
 }

@@ -6,7 +6,7 @@ use mathlib.Core.Bool.{true, false}
 use lib.ListN.{length}
 use Rattle.wire.specs.declared.telegram.Telegram.{Telegram}
 use Rattle.wire.specs.declared.fault.Fault.{Fault}
-use Rattle.wire.specs.Check.{soundOf}
+use Rattle.wire.specs.Check.{hitOf}
 use Rattle.wire.proofs.Laws.{built-sound, built-ten}
 use Rattle.judge.specs.declared.command.Command.{Command}
 use Rattle.judge.specs.declared.command.Command.the-variants.{Read, Write, Broadcast, Other}
@@ -20,7 +20,7 @@ use Rattle.reply.specs.Reply.{silence, fieldsSaid, said, errorReply, val
 
 -- silence is no reply, and whatever is said passes the check; either has ten bytes
 abbrev Passes : Said → Type 0
-Passes s = s .replied ≡ true → soundOf (s .reply) ≡ true
+Passes s = s .replied ≡ true → hitOf (s .reply) ≡ 0
 
 abbrev Ten : Said → Type 0
 Ten s = length (s .reply) ≡ 10
@@ -62,7 +62,7 @@ module _ (P : Said → Type 0) (quiet : P silence) (loud : (t : Telegram) (param
   reply-has j h word = by-has (j .verdict) j h word
 
 -- each telegram that a head sends passes its own check
-pub reply-sound : (j : Judged) (h : Head) (word : ℕ) → replyOf j h word .replied ≡ true → soundOf (replyOf j h word .reply) ≡ true
+pub reply-sound : (j : Judged) (h : Head) (word : ℕ) → replyOf j h word .replied ≡ true → hitOf (replyOf j h word .reply) ≡ 0
 reply-sound = reply-has Passes silence-passes said-passes
 
 pub reply-ten : (j : Judged) (h : Head) (word : ℕ) → length (replyOf j h word .reply) ≡ 10

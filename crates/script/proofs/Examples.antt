@@ -6,7 +6,7 @@ use mathlib.Core.Bool.{true}
 use mathlib.Core.List.{List, [], _∷_}
 use lib.IntN.{pos, negsuc}
 use Rattle.script.specs.declared.Command.{Command}
-use Rattle.script.specs.declared.Command.the-variants.{Blank, Malformed, Grow, Send, Tick, Measure, Keys, Power, Space}
+use Rattle.script.specs.declared.Command.the-variants.{Blank, Malformed, Grow, Send, Tick, Measure, Keys, Power, Space, Xor}
 use Rattle.script.specs.declared.arguments.Last.the-variants.{Nothing, PerhapsBytes}
 use Rattle.text.specs.Text.{text}
 use Rattle.text.specs.Lines.{bareOf}
@@ -64,6 +64,11 @@ cases =
     ∷ "Power 0" says Malformed
     ∷ "space 64" says Space 64
     ∷ "space 65" says Malformed
+    ∷ "xor 4294967295" says Xor 4294967295
+    ∷ "xor 4294967296" says Malformed
+    ∷ "xor" says Malformed
+    ∷ "xor 0 0" says Malformed
+    ∷ "XOR 0" says Malformed
     ∷ "  # note" says Blank
     ∷ "\r" says Blank
     ∷ "" says Blank
@@ -71,7 +76,7 @@ cases =
 
 hold : Hold cases
 unfolding wordsOf bareOf sameOf numberOf signedOf hexOf countOf lastOf argumentsOf nameOf orderOf commandOf spokenOf meaningOf
-hold = (refl, (refl, (refl, (refl, (refl, (refl, (refl, (refl, (refl, (refl, (refl, (refl, (refl, (refl, (refl, (refl, (refl, (refl, (refl, (refl, (refl, (refl, (refl, (refl, (refl, (refl, (refl, (refl, (refl, (refl, (refl, (refl, (refl, (refl, (refl, (refl, (refl, tt)))))))))))))))))))))))))))))))))))))
+hold = (refl, (refl, (refl, (refl, (refl, (refl, (refl, (refl, (refl, (refl, (refl, (refl, (refl, (refl, (refl, (refl, (refl, (refl, (refl, (refl, (refl, (refl, (refl, (refl, (refl, (refl, (refl, (refl, (refl, (refl, (refl, (refl, (refl, (refl, (refl, (refl, (refl, (refl, (refl, (refl, (refl, (refl, tt))))))))))))))))))))))))))))))))))))))))))
 
 -- bytes that may be left out
 left-out : argumentsOf (takesOf (9 ∷ []) PerhapsBytes) (wordsOf (text "7")) ≡ givenOf true (7 ∷ 0 ∷ 0 ∷ 0 ∷ 0 ∷ 0 ∷ []) (pos 0) 0 0

@@ -49,6 +49,7 @@ Told ws (command.Measure h v) = Unit {0}
 Told ws (command.Keys h s) = Unit {0}
 Told ws (command.Power h) = Unit {0}
 Told ws (command.Space n) = n ≤ largestSpace
+Told ws (command.Xor h) = Unit {0}
 
 of-test : (from : List Word) (b : Bool) (c d : Command) → Told from c → Told from d → Told from (cond b c d)
 of-test from true c d p q = p
@@ -109,6 +110,7 @@ told-order w ws name.Measure e = of-fit (w ∷ ws) (argumentsOf (rowOf name.Meas
 told-order w ws name.Keys e = of-fit (w ∷ ws) (argumentsOf (rowOf name.Keys .takes) ws) _ tt
 told-order w ws name.Power e = of-fit (w ∷ ws) (argumentsOf (rowOf name.Power .takes) ws) _ tt
 told-order w ws name.Space e = told-space w ws
+told-order w ws name.Xor e = of-fit (w ∷ ws) (argumentsOf (rowOf name.Xor .takes) ws) _ tt
 
 told-command : (ws : List Word) → Told ws (commandOf ws)
 unfolding commandOf

@@ -39,7 +39,8 @@ pub record Row : Type 0 where
 abbrev row : String → List ℕ → Last → (Arguments → Command) → Row
 row word limits after made = record { word = word; takes = takesOf limits after; made = made }
 
--- any other word, which makes no command, then head NODE, send TIME HEX, tick TIME, measure HEAD VALUE, keys HEAD STATE, power HEAD, space SIZE
+-- any other word, which makes no command, then head NODE, send TIME HEX, tick TIME, measure HEAD VALUE, keys HEAD STATE, power HEAD, space SIZE,
+-- xor HEAD
 abbrev pub rowOf : Name → Row
 rowOf name.Other = row "" [] last.Nothing (λ a. command.Malformed)
 rowOf name.Head = row "head" (whole ∷ []) last.Nothing (λ a. command.Grow (a .first))
@@ -49,10 +50,11 @@ rowOf name.Measure = row "measure" (whole ∷ []) last.Signed (λ a. command.Mea
 rowOf name.Keys = row "keys" (whole ∷ whole ∷ []) last.Nothing (λ a. command.Keys (a .first) (a .second))
 rowOf name.Power = row "power" (whole ∷ []) last.Nothing (λ a. command.Power (a .first))
 rowOf name.Space = row "space" (largestSpace ∷ []) last.Nothing (λ a. command.Space (a .first))
+rowOf name.Xor = row "xor" (whole ∷ []) last.Nothing (λ a. command.Xor (a .first))
 
 -- the command whose word it is, in lower case; of the names gone through, `found` is the one so far
 abbrev pub names : List Name
-names = name.Head ∷ name.Send ∷ name.Tick ∷ name.Measure ∷ name.Keys ∷ name.Power ∷ name.Space ∷ []
+names = name.Head ∷ name.Send ∷ name.Tick ∷ name.Measure ∷ name.Keys ∷ name.Power ∷ name.Space ∷ name.Xor ∷ []
 
 abbrev nameIn : Name → List Name → List ℕ → Name
 nameIn found [] w = found

@@ -44,6 +44,7 @@ pub enum Command {
     },
     Power(u32),
     Space(usize),
+    Xor(u32),
 }
 
 // The command word, or any other.
@@ -56,6 +57,7 @@ enum Name {
     Keys,
     Power,
     Space,
+    Xor,
 }
 
 // What a line without its newline means. One of more than 4,097 bytes is malformed whatever it holds, so that its first 4,098 bytes do for it.
@@ -117,7 +119,8 @@ fn named(word: &[u8]) -> Name
     let measure = called(word, b"measure", Name::Measure, tick);
     let keys = called(word, b"keys", Name::Keys, measure);
     let power = called(word, b"power", Name::Power, keys);
-    called(word, b"space", Name::Space, power)
+    let space = called(word, b"space", Name::Space, power);
+    called(word, b"xor", Name::Xor, space)
 }
 
 // The command of that name with the words from the place `from` on.
@@ -145,6 +148,7 @@ fn takes(name: Name) -> Takes
         Name::Keys => Takes([WHOLE, WHOLE, 0, 0, 0, 0], 2, Last::Nothing),
         Name::Power => Takes([WHOLE, 0, 0, 0, 0, 0], 1, Last::Nothing),
         Name::Space => Takes([LARGEST_SPACE, 0, 0, 0, 0, 0], 1, Last::Nothing),
+        Name::Xor => Takes([WHOLE, 0, 0, 0, 0, 0], 1, Last::Nothing),
     }
 }
 
@@ -171,5 +175,6 @@ fn made(name: Name, a: Arguments) -> Command
         },
         Name::Power => Command::Power(a.first),
         Name::Space => Command::Space(a.first as usize),
+        Name::Xor => Command::Xor(a.first),
     }
 }

@@ -3,7 +3,7 @@
 use Prim.Native.Nat.{ℕ, zero, suc, min}
 use Prim.Native.Char.{code}
 use mathlib.Core.Bool.{cond}
-use mathlib.Core.List.{List, _∷_}
+use mathlib.Core.List.{List, [], _∷_, _++_}
 use lib.Dec.{ltb}
 use lib.ListN.{length, take, replicate}
 use Rattle.hex.specs.Digits.{digitsOf}
@@ -18,6 +18,10 @@ use Rattle.simulate.specs.declared.desk.Desk.{Desk}
 -- no head, and space for one reply
 unfoldable pub deskOf : Desk
 deskOf = record { line = emptyOf; space = 10 }
+
+-- the answer that shows an exclusive-or: its two digits
+unfoldable pub hitLineOf : ℕ → List ℕ
+hitLineOf x = code "x" ∷ code "o" ∷ code "r" ∷ code " " ∷ (digitsOf (x ∷ []) ++ (code "\n" ∷ []))
 
 -- the reply at the start of the space, after a blank; only blanks where there is no room for a reply
 unfoldable pub wordOf : List ℕ → List ℕ
@@ -45,7 +49,7 @@ sendOf d text time from count =
 abbrev pub spacedOf : Desk → ℕ → Desk
 spacedOf d size = record { line = d .line; space = size }
 
--- what each command calls; a line that is passed over, and one that is none of the commands, change nothing
+-- what each command calls; a line that is passed over, one that is none of the commands, and the call that only reads change nothing
 abbrev pub didOf : Command → List ℕ → Desk → Desk
 didOf command.Blank text d = d
 didOf command.Malformed text d = d
@@ -56,6 +60,7 @@ didOf (command.Measure at value) text d = calledOf d (measureOf (d .line) at val
 didOf (command.Keys at state) text d = calledOf d (keysOf (d .line) at state)
 didOf (command.Power at) text d = calledOf d (powerOf (d .line) at)
 didOf (command.Space size) text d = spacedOf d size
+didOf (command.Xor at) text d = d
 
 unfoldable pub obeyedOf : Desk → List ℕ → Desk
 obeyedOf d text = didOf (meaningOf text) text d

@@ -3,6 +3,7 @@ use crate::answer;
 use crate::answer::Answering;
 use head::calls::Answer;
 use head::calls::Heard;
+use head::calls::Hit;
 use head::refusal::Refusal;
 use libc::STDOUT_FILENO;
 use line::calls;
@@ -12,7 +13,7 @@ use script::Command;
 ghost use mathlib.Core.Path.{_≡_};
 ghost use Prim.Native.Nat.{_≤_};
 ghost use lib.ListN.{length};
-ghost use Rattle.simulate.specs.Desk.{deskOf, wordOf, sentOf, roomOf, sendOf, calledOf, spacedOf, obeyedOf};
+ghost use Rattle.simulate.specs.Desk.{deskOf, hitLineOf, wordOf, sentOf, roomOf, sendOf, calledOf, spacedOf, obeyedOf};
 
 // The line, and how much reply space its byte calls lend.
 pub(crate) struct Desk {
@@ -51,13 +52,35 @@ fn write_refusal(why: Refusal) -> bool {
     write_number(why.number() as u64) & label
 }
 
+fn write_refused(why: Refusal) -> bool {
+    let text = write_refusal(why);
+    answer::write(b"\n") & text
+}
+
 fn write_answer(a: Answer) -> bool {
     match a {
         Answer::Done => answer::write(b"ok\n"),
-        Answer::Refused(why) => {
-            let text = write_refusal(why);
-            answer::write(b"\n") & text
+        Answer::Refused(why) => write_refused(why),
+    }
+}
+
+// The answer that shows an exclusive-or.
+fn hit_line(x: u8) -> [u8; 7]
+    ensures { λ r. ⌜ r ≡ hitLineOf x ⌝ }
+{
+    let mut text = [b'x', b'o', b'r', b' ', b' ', b' ', b'\n'];
+    let one = [x];
+    hex::spell(&one, &mut text[4..6]);
+    text
+}
+
+fn write_hit(hit: Hit) -> bool {
+    match hit {
+        Hit::Bits(x) => {
+            let text = hit_line(x);
+            answer::write(&text)
         }
+        Hit::Refused(why) => write_refused(why),
     }
 }
 
@@ -234,5 +257,9 @@ pub(crate) fn obey(d: Desk, text: &[u8], number: u64) -> Obeyed
         Command::Keys { head, state } => done(d, calls::keys(d.line, head as usize, state)),
         Command::Power(head) => done(d, calls::power(d.line, head as usize)),
         Command::Space(size) => spaced(d, size),
+        Command::Xor(head) => Obeyed {
+            desk: d,
+            written: write_hit(calls::last_hit(d.line, head as usize)),
+        },
     }
 }

@@ -14,7 +14,7 @@ fn words() -> bool {
         b"  head NODE            grow the line by a head; the first is head 0\n  send TIME HEX        feed these bytes (two hex digits each), all at TIME\n  tick TIME            let the heads look at the clock\n",
     );
     let heads = write(
-        b"  measure HEAD VALUE   a head's measurement; VALUE may have a minus sign\n  keys HEAD STATE      a head's keys: 1 left, 2 star, 4 up, or a sum of these\n  power HEAD           switch a head off and on\n  space SIZE           how much reply space bytes lend, 0 to 64; 10 at first\n\n",
+        b"  measure HEAD VALUE   a head's measurement; VALUE may have a minus sign\n  keys HEAD STATE      a head's keys: 1 left, 2 star, 4 up, or a sum of these\n  power HEAD           switch a head off and on\n  space SIZE           how much reply space bytes lend, 0 to 64; 10 at first\n  xor HEAD             which bits of a head's last damaged telegram were hit\n\n",
     );
     what & line & heads
 }
@@ -26,10 +26,13 @@ fn answers() -> bool {
     let done = write(
         b"  ok                   done\n  sent ...             fed; then each reply as twenty hex digits, or 'collision N'\n                       where N heads replied at once\n",
     );
+    let hit = write(
+        b"  xor HH               the exclusive-or of the last damaged telegram that the head\n                       heard since it was switched on or restarted; 00: none\n",
+    );
     let refused = write(
         b"  refused N            1 node number not 1 to 127   4 measurement out of range\n                       2 ninth head                 5 key state above 7\n                       3 no such head               6 space under ten bytes\n  error at line N      the line is none of these commands\n",
     );
-    form & done & refused
+    form & done & hit & refused
 }
 
 // The only argument that there is.

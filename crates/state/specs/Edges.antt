@@ -25,7 +25,7 @@ abbrev list : ℕ → ErrorList
 list count = record { codes = replicate 10 0; count = count }
 
 abbrev faults : ℕ → ℕ → ℕ → Faults
-faults memory inputs damaged = record { memory = list memory; inputs = list inputs; pending = 0; damaged = damaged }
+faults memory inputs damaged = record { memory = list memory; inputs = list inputs; pending = 0; hit = 0; damaged = damaged }
 
 abbrev measurement : ℤ → ℤ → ℤ → ℕ → ℤ → Measurement
 measurement m zero start adopted kept =

@@ -14,12 +14,14 @@ pub struct Stored {
     pub unlocked: bool,
 }
 
-// Remembered errors and input errors, the pending error (0: none), damaged telegrams in a row.
+// Remembered errors and input errors, the pending error (0: none), the exclusive-or of the last damaged telegram since the restart (0: none),
+// damaged telegrams in a row.
 #[repr(C)]
 pub struct Faults {
     pub memory: ErrorList,
     pub inputs: ErrorList,
     pub pending: u16,
+    pub hit: u8,
     pub damaged: u32,
 }
 

@@ -5,15 +5,13 @@ use native.Mathlib.Nat.{div-add-mod'}
 use native.Mathlib.Numerals.{add-one}
 use native.Mathlib.Omega.{arith}
 use mathlib.Core.Path.{_≡_, refl, ap, sym, _∙_}
-use mathlib.Core.Bool.{true}
 use mathlib.Core.List.{List, [], _∷_, _++_}
-use borrow.Author.Tests.{eq-eqb}
 use lib.ListN.{length, drop, getD, drop-of-length-le}
 use lib.Seq.{drop-cons}
 use lib.Bits.{bitXor, xor-self}
 use Rattle.wire.specs.declared.telegram.Telegram.{Telegram}
 use Rattle.wire.specs.Word.{halfOf, wholeOf, byte0, byte1, byte2, byte3}
-use Rattle.wire.specs.Check.{xorOnto, xorAll, soundOf, withCheck}
+use Rattle.wire.specs.Check.{xorOnto, xorAll, hitOf, withCheck}
 use Rattle.wire.specs.Telegram.{fieldsOf, nineOf, bytesOf, Fits}
 
 -- the bytes of a word make the word
@@ -49,9 +47,9 @@ module _ (a : ℕ) (bs : List ℕ) (i : ℕ) {t : ℕ} (so : xorOnto a (drop i b
   onto-done h = rw (drop-of-length-le bs h) at so
 
 -- whatever is built of fields is sound
-pub built-sound : (t : Telegram) → soundOf (bytesOf t) ≡ true
-unfolding soundOf bytesOf
-built-sound t = eq-eqb (xorAll (bytesOf t)) 0 (check-passes (nineOf t))
+pub built-sound : (t : Telegram) → hitOf (bytesOf t) ≡ 0
+unfolding hitOf bytesOf
+built-sound t = check-passes (nineOf t)
 
 pub built-ten : (t : Telegram) → length (bytesOf t) ≡ 10
 unfolding bytesOf

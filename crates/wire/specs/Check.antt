@@ -1,10 +1,8 @@
 -- The check sum (document 01, "Ten bytes"; manual 6.3.7).
 -- Assumes nothing.
 use Prim.Native.Nat.{ℕ}
-use mathlib.Core.Bool.{Bool}
 use mathlib.Core.List.{List, [], _∷_, _++_}
 use lib.Bits.{bitXor}
-use lib.Dec.{eqb}
 
 -- the exclusive-or of a and all bytes, from the left
 abbrev pub xorOnto : ℕ → List ℕ → ℕ
@@ -14,9 +12,10 @@ xorOnto a (b ∷ bs) = xorOnto (bitXor a b) bs
 abbrev pub xorAll : List ℕ → ℕ
 xorAll bs = xorOnto 0 bs
 
--- all ten together give 0
-unfoldable pub soundOf : List ℕ → Bool
-soundOf ten = eqb (xorAll ten) 0
+-- the check of ten bytes (document 02, request (i)): all ten together. They give 0 where they are sound; a bit is set where it was hit in an odd
+-- number of bytes
+unfoldable pub hitOf : List ℕ → ℕ
+hitOf ten = xorAll ten
 
 -- bytes with the exclusive-or of them all as the last
 abbrev pub withCheck : List ℕ → List ℕ

@@ -1,9 +1,9 @@
 // The check sum: the exclusive-or of bytes.
 ghost use mathlib.Core.Path.{_≡_};
-ghost use Rattle.wire.specs.Check.{xorAll, soundOf};
+ghost use Rattle.wire.specs.Check.{xorAll, hitOf};
 
 // The exclusive-or of all bytes of a slice.
-pub fn exclusive_or(b: &[u8]) -> u8
+fn exclusive_or(b: &[u8]) -> u8
     ensures { λ r. ⌜ r ≡ xorAll (now (b .entry)) ⌝ }
 {
     let mut x: u8 = 0;
@@ -15,9 +15,10 @@ pub fn exclusive_or(b: &[u8]) -> u8
     x
 }
 
-// Ten bytes pass the check. Whoever asks whether a telegram is undamaged asks here.
-pub fn sound(b: [u8; 10]) -> bool
-    ensures { λ r. ⌜ r ≡ soundOf b ⌝ }
+// The check of ten bytes: the exclusive-or of them all shows which bits were hit, and 0 means sound. Whoever asks whether a telegram is
+// undamaged asks here.
+pub fn hit(ten: [u8; 10]) -> u8
+    ensures { λ r. ⌜ r ≡ hitOf ten ⌝ }
 {
-    exclusive_or(&b) == 0
+    exclusive_or(&ten)
 }

@@ -8,14 +8,16 @@ use Rattle.script.proofs.named.Tie as tie
 returns : tie.Need-returns
 unfolding nameOf
 returns c =
-    let power = c .before .before in
+    let space = c .before .before in
+    let power = space .before .before in
     let keys = power .before .before in
     let measure = keys .before .before in
     let tick = measure .before .before in
     let send = tick .before .before in
     let head = send .before .before in
     simp (
-      c .called7 .ensures,
+      c .called8 .ensures,
+      space .called7 .ensures,
       power .called6 .ensures,
       keys .called5 .ensures,
       measure .called4 .ensures,
@@ -28,6 +30,8 @@ pub named-spec : {M : Type 1} → statement M
 named-spec =
     tie.close
     (tie.spec
+    (λ c. search needs)
+    (λ c κs. search needs)
     (λ c. search needs)
     (λ c κs. search needs)
     (λ c. search needs)

@@ -17,7 +17,9 @@ const LINES_THAT_ARE_NONE: &str = "heads 1|HEAD 1|Send 0 00|head|head 1 2|head -
     head 4294967296|head 42949672960|head 18446744073709551617|head 1#|send|send 0|send 0 0|send 0 001F2|\
     send 0 0G|send 0 00 00|send 0 0x00|send 4294967296 00|send -1 00|tick|tick 1 2|tick 4294967296|tick -0|\
     measure 0|measure 0 1 2|measure 0 2147483648|measure 0 -2147483649|measure 0 -|measure 0 --1|\
-    measure 0 +1|measure -0 1|keys 0|keys 0 -1|power|power 0 0|space 65|space -1";
+    measure 0 +1|measure -0 1|keys 0|keys 0 -1|power|power 0 0|xor|xor 0 0|xor 0 1|\
+    xor -1|xor -0|xor +0|xor x|xor 1F|xor 0x0|xor 0#|xor 4294967296|xor 18446744073709551616|XOR 0|xors 0|\
+    xor0|space 65|space -1";
 
 pub struct Generator {
     random: Random,
@@ -69,9 +71,10 @@ impl Generator {
             58..=59 => self.send_stray_bytes(),
             60..=63 => self.read_back(),
             64 => self.write_edges(),
-            65..=74 => self.measure(),
-            75..=81 => self.keys(),
-            82..=90 => self.tick(),
+            65..=73 => self.measure(),
+            74..=80 => self.keys(),
+            81..=88 => self.tick(),
+            89..=90 => self.xor(),
             91 => self.power(),
             92 => self.grow(),
             93..=94 => self.refused(),
@@ -154,8 +157,19 @@ impl Generator {
         }
     }
 
+    /// What damaged telegrams and restarts leave in a head shows only if it is asked for before the next one;
+    /// that nothing else changes it, only if it is asked for after other sends too.
     fn send(&mut self, bytes: &[u8]) {
+        let bits_before = self.bits_hit();
         self.write_line(format!("send {} {}", self.now, hex(bytes)));
+        let percent = if self.bits_hit() == bits_before { 7 } else { 50 };
+        if self.random.chance(percent) {
+            self.xor();
+        }
+    }
+
+    fn bits_hit(&self) -> Vec<u8> {
+        self.model.line().heads().iter().map(Head::bits_hit).collect()
     }
 
     fn telegram(&mut self) -> Vec<u8> {
@@ -195,19 +209,27 @@ impl Generator {
             2 => self.measure(),
             3 => self.keys(),
             4 => self.space(),
+            5 => self.xor(),
             _ => {}
         }
     }
 
+    /// Telegrams that were hit, sometimes with a sound one or a restart after them.
     fn send_damaged(&mut self) {
         self.advance();
-        let mut bytes = Vec::new();
-        for _ in 0..1 + self.random.below(4) {
-            let mut telegram = self.telegram();
-            telegram[self.random.below(10) as usize] ^= 1 << self.random.below(8);
-            bytes.extend(telegram);
+        let head = self.some_head().map_or_else(Head::factory, |(_, head)| head);
+        let mut author = Author { random: &mut self.random, head: &head };
+        let count = 1 + author.random.below(4);
+        let mut bytes: Vec<u8> = (0..count).flat_map(|_| author.noisy()).collect();
+        match author.random.below(10) {
+            0..=1 => bytes.extend(author.telegram()),
+            2 => bytes.extend(author.restart().bytes()),
+            _ => {}
         }
         self.send(&bytes);
+        if self.random.chance(10) {
+            self.power();
+        }
     }
 
     fn send_stray_bytes(&mut self) {
@@ -281,9 +303,28 @@ impl Generator {
     }
 
     fn power(&mut self) {
-        match self.some_head() {
-            Some((number, _)) => self.write_line(format!("power {number}")),
-            None => self.refused(),
+        let Some((number, _)) = self.some_head() else {
+            return self.refused();
+        };
+        self.write_line(format!("power {number}"));
+        if self.random.chance(30) {
+            self.write_line(format!("xor {number}"));
+        }
+    }
+
+    /// Mostly one head; sometimes all, as each hears on its own, or one that is not there.
+    fn xor(&mut self) {
+        let Some((number, _)) = self.some_head() else {
+            return self.refused();
+        };
+        let count = self.model.line().heads().len();
+        let numbers = match self.random.below(25) {
+            0 => count..count + 1,
+            1..=5 => 0..count,
+            _ => number..number + 1,
+        };
+        for number in numbers {
+            self.write_line(format!("xor {number}"));
         }
     }
 
@@ -326,20 +367,22 @@ impl Generator {
         let count = self.model.line().heads().len();
         let missing = match self.random.below(4) {
             0 => MOST_HEADS.to_string(),
-            1 => u32::MAX.to_string(),
+            // The low bytes of the first two alone would name head 0.
+            1 => self.random.pick(&[1 << 8, 1 << 16, u32::MAX]).to_string(),
             _ => count.to_string(),
         };
         let present = self.random.below(count.max(1) as u32).to_string();
         let head = if self.random.chance(50) { missing } else { present };
         let far = self.random.pick(&[2_500_001, -2_500_001, 3_000_000, i32::MAX, i32::MIN]);
         let state = self.random.pick(&[8, 9, 255, 256, u32::MAX]);
-        let line = match self.random.below(8) {
+        let line = match self.random.below(10) {
             0 => format!("head {}", self.random.pick(&[0, 128, 255, 256, 257, 300, u32::MAX])),
             1..=2 => format!("measure {head} {far}"),
             3 => format!("measure {head} 7"),
             4..=5 => format!("keys {head} {state}"),
             6 => format!("keys {head} 1"),
-            _ => format!("power {head}"),
+            7 => format!("power {head}"),
+            _ => format!("xor {head}"),
         };
         self.write_line(line);
     }
@@ -351,7 +394,7 @@ impl Generator {
             0 => self.line_of_length(),
             1 => format!("tick {} #", self.now),
             2 => "measure 0 -0".to_string(),
-            3 => "power\u{b}0".to_string(),
+            3 => self.random.pick(&["power\u{b}0", "xor\u{b}0"]).to_string(),
             _ => {
                 let lines: Vec<&str> = LINES_THAT_ARE_NONE.split('|').collect();
                 self.random.pick(&lines).to_string()
@@ -377,9 +420,10 @@ impl Generator {
     }
 
     fn odd_bytes(&mut self) {
-        let mut line = match self.random.below(3) {
+        let mut line = match self.random.below(4) {
             0 => Vec::new(),
             1 => b"head 1".to_vec(),
+            2 => b"xor 0".to_vec(),
             _ => format!("send {} 00", self.now).into_bytes(),
         };
         for _ in 0..self.random.below(6) {
@@ -397,5 +441,57 @@ impl Generator {
     fn passed_over(&mut self) {
         let line = self.random.pick(&["", " ", "\t \t", "#", "# head 1", "  #send 0 00", "#\t\u{e9}"]);
         self.write_raw(line.as_bytes().to_vec());
+    }
+}
+
+#[cfg(test)]
+mod tests {
+    use super::*;
+    use reference::line::Refusal;
+    use reference::script::{meaning, Command, Meaning};
+
+    type Bits = Result<u8, Refusal>;
+
+    /// What each `xor` in 200 scripts would have shown a line earlier, and what it shows.
+    fn before_and_now() -> Vec<(Bits, Bits)> {
+        let mut shown = Vec::new();
+        for number in 1..=200 {
+            let mut now = Simulation::new();
+            for pair in script(1, number).lines.windows(2) {
+                let before = now.clone();
+                now.answer(&pair[0]);
+                if let Meaning::Command(Command::Xor { head }) = meaning(&pair[1]) {
+                    shown.push((before.line().bits_hit(head), now.line().bits_hit(head)));
+                }
+            }
+        }
+        shown
+    }
+
+    #[test]
+    fn answers_to_xor_are_frequent_at_the_edges_and_spread_between() {
+        let shown = before_and_now();
+        let count = |bits: Bits| shown.iter().filter(|(_, now)| *now == bits).count();
+        let single_bits = (0..8).map(|bit| Ok(1 << bit));
+        for edge in single_bits.chain([Ok(0), Ok(0xFF), Err(Refusal::HeadNumber)]) {
+            assert!(count(edge) >= 100, "{edge:?}: {}", count(edge));
+        }
+        assert!((0..=0xFF).filter(|&bits| count(Ok(bits)) > 0).count() >= 250);
+    }
+
+    #[test]
+    fn xor_often_follows_what_changes_its_answer_and_what_does_not() {
+        let mut counts = [0; 4];
+        for pair in before_and_now() {
+            let kind = match pair {
+                (Err(_), _) | (_, Err(_)) | (Ok(0), Ok(0)) => continue,
+                (Ok(0), Ok(_)) => 0,
+                (Ok(_), Ok(0)) => 1,
+                (Ok(before), Ok(now)) if before != now => 2,
+                _ => 3,
+            };
+            counts[kind] += 1;
+        }
+        assert!(counts.iter().all(|&count| count >= 200), "{counts:?}");
     }
 }

@@ -95,6 +95,7 @@ fn renumber(line: &mut Vec<u8>, gone: u32) {
         Command::Measure { head, value } if head > gone => format!("measure {} {value}", head - 1),
         Command::Keys { head, state } if head > gone => format!("keys {} {state}", head - 1),
         Command::Power { head } if head > gone => format!("power {}", head - 1),
+        Command::Xor { head } if head > gone => format!("xor {}", head - 1),
         _ => return,
     };
     *line = renumbered.into_bytes();
@@ -200,6 +201,22 @@ mod tests {
                 && script.bytes().windows(5).any(|word| word == b"power")
         };
         assert_eq!(shrink_script(script, &mut powers_a_head).bytes(), b"head 3\npower 0\n");
+    }
+
+    #[test]
+    fn calls_on_later_heads_name_them_by_one_less() {
+        for (line, renumbered) in [
+            ("measure 2 -5", "measure 1 -5"),
+            ("keys 2 7", "keys 1 7"),
+            ("power 2", "power 1"),
+            ("xor 2", "xor 1"),
+            ("xor 1", "xor 1"),
+            ("xor 0", "xor 0"),
+        ] {
+            let mut line = line.as_bytes().to_vec();
+            renumber(&mut line, 1);
+            assert_eq!(line, renumbered.as_bytes());
+        }
     }
 
     #[test]

@@ -3,7 +3,7 @@
 use crate::random::Random;
 use reference::head::Head;
 use reference::rows::{self, ROWS};
-use reference::telegram::{Telegram, BROADCAST, READ, WRITE};
+use reference::telegram::{Telegram, BROADCAST, READ, TELEGRAM_LENGTH, WRITE};
 
 /// The stored parameters that do more than being read back, the busier ones more than once.
 const EFFECTIVE_ROWS: [u8; 32] = [
@@ -29,16 +29,51 @@ pub struct Author<'a> {
 }
 
 impl Author<'_> {
-    pub fn telegram(&mut self) -> [u8; 10] {
+    pub fn telegram(&mut self) -> [u8; TELEGRAM_LENGTH] {
         // A locked head refuses most of what follows; open it before long.
         let telegram = if self.head.is_locked() && self.random.chance(10) {
             self.sound(WRITE, rows::PROGRAMMING_MODE, 0, 1)
         } else {
             self.any_telegram()
         };
-        let mut bytes = telegram.bytes();
         if self.random.chance(6) {
-            bytes[self.random.below(10) as usize] ^= 1 << self.random.below(8);
+            self.hit(telegram)
+        } else {
+            telegram.bytes()
+        }
+    }
+
+    /// A telegram that was hit on its way: more often than others one that the head would not answer, or that
+    /// would restart it.
+    pub fn noisy(&mut self) -> [u8; TELEGRAM_LENGTH] {
+        let telegram = match self.random.below(10) {
+            0..=1 => self.broadcast(),
+            2 => self.restart(),
+            3..=5 => {
+                let telegram = self.any_telegram();
+                self.at_any_node(telegram.command(), telegram)
+            }
+            _ => self.any_telegram(),
+        };
+        self.hit(telegram)
+    }
+
+    fn hit(&mut self, telegram: Telegram) -> [u8; TELEGRAM_LENGTH] {
+        let mut bytes = telegram.bytes();
+        let place = self.random.below(10) as usize;
+        match self.random.below(10) {
+            0..=2 => bytes[place] ^= 1 << self.random.below(8),
+            3..=4 => bytes[place] = self.random.byte(),
+            5 => bytes[place] = !bytes[place],
+            // All that the telegram asks for is as it was.
+            6..=7 => bytes[9] = self.random.byte(),
+            8 => bytes.iter_mut().for_each(|byte| *byte ^= 1 << self.random.below(8)),
+            // The same bits of two bytes, which the check does not see.
+            _ => {
+                let bits = self.random.byte();
+                bytes[place] ^= bits;
+                bytes[(place + 1 + self.random.below(9) as usize) % 10] ^= bits;
+            }
         }
         bytes
     }
@@ -212,6 +247,10 @@ impl Author<'_> {
         self.sound(command, rows::SYSTEM_COMMAND, 0, data)
     }
 
+    pub fn restart(&mut self) -> Telegram {
+        self.sound(WRITE, rows::SYSTEM_COMMAND, 0, 9)
+    }
+
     fn other_write_only(&mut self, command: u8) -> Telegram {
         let parameter = self.random.pick(&[rows::CALIBRATION_TRAVEL, rows::PROGRAMMING_MODE, rows::FREEZE]);
         let data = match parameter {
@@ -232,16 +271,14 @@ impl Author<'_> {
             _ => self.write_set_point_2(),
         };
         if self.random.chance(70) {
-            let node = self.random.byte();
-            telegram = Telegram::new(
-                BROADCAST,
-                node,
-                telegram.parameter(),
-                telegram.control_word(),
-                telegram.data(),
-            );
+            telegram = self.at_any_node(BROADCAST, telegram);
         }
         telegram
+    }
+
+    fn at_any_node(&mut self, command: u8, telegram: Telegram) -> Telegram {
+        let node = self.random.byte();
+        Telegram::new(command, node, telegram.parameter(), telegram.control_word(), telegram.data())
     }
 
     fn wrong_access(&mut self) -> Telegram {

@@ -1,6 +1,6 @@
 -- `effects::errors::counted` meets its contract: each return is a case of the definition.
 -- Assumes nothing.
-use borrow.Author.Tests.{lt-ltb, le-ltb}
+use borrow.Author.Tests.{eq-eqb, ne-eqb, lt-ltb, le-ltb}
 use Rattle.effects.specs.Faults.{countedOf}
 use borrow.Author.Needs.{needs}
 use Rattle.effects.proofs.errors.counted.Statement.{statement}
@@ -11,8 +11,8 @@ unfolding countedOf
 counted-spec =
     tie.close
     (tie.spec
-    (λ c. rw (c .if1 .taken))
+    (λ c. rw (eq-eqb _ _ (c .if1 .taken)))
     (λ c. search needs)
-    (λ c. simp (c .before .before .before .if1 .left, lt-ltb _ _ (c .before .if2 .taken)))
+    (λ c. simp (ne-eqb _ _ (c .before .before .before .if1 .left), lt-ltb _ _ (c .before .if2 .taken)))
     (λ c κs. search needs)
-    (λ c. simp (c .raised .ensures, c .before .before .before .if1 .left, le-ltb _ _ (c .before .if2 .left))))
+    (λ c. simp (c .raised .ensures, ne-eqb _ _ (c .before .before .before .if1 .left), le-ltb _ _ (c .before .if2 .left))))

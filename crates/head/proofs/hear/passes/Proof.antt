@@ -14,4 +14,4 @@ passes-spec =
     (λ c. search needs)
     (λ c. search needs)
     (λ c. search needs)
-    (λ c. rw (c .sound .ensures)))
+    (λ c. rw (c .hit .ensures)))

@@ -21,6 +21,6 @@ judge-spec =
       c .before .verdict-of .ensures,
       c .before .before .kind-of .ensures,
       c .before .before .before .command-of .ensures,
-      c .before .before .before .before .sound .ensures,
+      c .before .before .before .before .hit .ensures,
       c .before .before .before .before .before .fields .ensures,
     )))

@@ -55,6 +55,10 @@ obey-spec =
     (λ c κs. tt)
     (λ c. search needs)
     (λ c κs. tt)
+    (λ c. search needs)
+    (λ c. search needs)
+    (λ c κs. tt)
+    (λ c κs. tt)
     (λ c. did _ _ _ _ (c .before .before .meaning .ensures) (c .enum-told .given .1))
     (λ c. did _ _ _ _ (c .before .before .before .meaning .ensures) (c .before .enum-told2 .given .1))
     (λ c. let k = c .before .before .before in
@@ -71,4 +75,5 @@ obey-spec =
     called (k .before .before .before .before .args .d) _ _ _ _ (c .done4 .ensures) (c .before .keys .ensures) (k .before .before .meaning .ensures) (k .head2 .given .1) refl)
     (λ c. let k = c .before .before .before in
     called (k .before .before .before .before .args .d) _ _ _ _ (c .done5 .ensures) (c .before .power .ensures) (k .before .before .meaning .ensures) (k .head3 .given .1) refl)
-    (λ c. let k = c .before .before in c .spaced .ensures ∙ did _ _ _ _ (k .before .before .meaning .ensures) (k .size .given .1)))
+    (λ c. let k = c .before .before in c .spaced .ensures ∙ did _ _ _ _ (k .before .before .meaning .ensures) (k .size .given .1))
+    (λ c. let k = c .before .before .before in did _ _ _ _ (k .before .before .meaning .ensures) (k .head4 .given .1)))
