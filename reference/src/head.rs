@@ -2,8 +2,9 @@
 
 use crate::rows::{self, Access, ROWS, ROW_COUNT};
 use crate::telegram::{
-    self, ErrorCode, Reply, Telegram, CHECK_SUM, COMMAND_NOT_SUPPORTED, PROGRAMMING_LOCKED, READ,
-    READ_OF_WRITE_ONLY, TELEGRAM_LENGTH, UNKNOWN_PARAMETER, VALUE_ABOVE_HIGH, WRITE_TO_READ_ONLY,
+    self, ErrorCode, Reply, Telegram, CHECK_SUM, COMMAND_NOT_SUPPORTED, DEVICE_STATUS, PROGRAMMING_LOCKED,
+    READ, READ_OF_WRITE_ONLY, TELEGRAM_LENGTH, UNKNOWN_PARAMETER, VALUE_ABOVE_HIGH, VALUE_BELOW_LOW, WRITE,
+    WRITE_TO_READ_ONLY,
 };
 use std::collections::VecDeque;
 
@@ -80,6 +81,7 @@ struct Running {
     bits_hit: u8,
     input_errors: ErrorList,
     keys: u8,
+    number_on_offer: Option<u8>,
     kept_position: Option<i64>,
     incremental_start: Option<i32>,
     monitor_started_at: Option<u32>,
@@ -158,6 +160,11 @@ impl Head {
         self.running.keys
     }
 
+    /// The number that up would adopt.
+    pub fn number_on_offer(&self) -> Option<u8> {
+        self.running.number_on_offer
+    }
+
     pub fn set_point_2(&self) -> i32 {
         self.running.set_point_2
     }
@@ -212,16 +219,18 @@ impl Head {
         self.set_static_bit_in_window();
     }
 
-    /// A key state that the caller has found to be 0 to 7.
-    pub fn set_keys(&mut self, keys: u8) {
+    /// A key state that the caller has found to be 0 to 7; the reply if the head adopts the number on offer.
+    pub fn set_keys(&mut self, keys: u8) -> Option<Reply> {
+        let status_word_before = self.status_word();
         let newly_pressed = keys & !self.running.keys;
         self.running.keys = keys;
         if newly_pressed & KEY_LEFT != 0 {
             self.left_pressed();
         }
-        if newly_pressed & KEY_UP != 0 && self.value(rows::INCREMENTAL_KEY_ENABLE) == 1 {
-            self.switch_incremental();
+        if newly_pressed & KEY_UP != 0 {
+            return self.up_pressed(status_word_before);
         }
+        None
     }
 
     /// Restart, by power or by A0h 9.
@@ -242,10 +251,15 @@ impl Head {
         self.running.monitor_started_at = Some(time);
         match self.verdict(&telegram) {
             Verdict::NotForThisHead => None,
-            Verdict::Refused(code) => self.refuse(&telegram, status_word_before, code),
+            Verdict::Refused(code) => {
+                if aborts_auto_id(&telegram, code) {
+                    self.running.number_on_offer = None;
+                }
+                self.refuse(&telegram, status_word_before, code)
+            }
             Verdict::Obeyed => {
                 let data = self.obey(&telegram);
-                (!telegram.is_broadcast()).then(|| telegram.reply(status_word_before, data))
+                is_answered(&telegram).then(|| telegram.reply(status_word_before, data))
             }
         }
     }
@@ -296,6 +310,10 @@ impl Head {
         if self.is_locked() && rows::is_lockable(parameter) {
             return Err(PROGRAMMING_LOCKED);
         }
+        // D2h is not lockable, so these two do not meet.
+        if parameter == rows::AUTO_ID && self.number_in_force != FACTORY_NODE {
+            return Err(DEVICE_STATUS);
+        }
         rows::check_value(parameter, telegram.data())
     }
 
@@ -319,7 +337,7 @@ impl Head {
         Some(telegram.error_reply(status_word_before, code))
     }
 
-    /// Does what the telegram asks and gives the data of its reply.
+    /// Does what the telegram asks and gives the data of its reply, if it is one that is answered.
     fn obey(&mut self, telegram: &Telegram) -> u32 {
         let parameter = telegram.parameter();
         let data = telegram.data();
@@ -333,6 +351,7 @@ impl Head {
             rows::CALIBRATION_TRAVEL => self.calibrate(),
             rows::PROGRAMMING_MODE => self.interlock_open = data == 1,
             rows::FREEZE => self.running.kept_position = Some(self.position_shown()),
+            rows::AUTO_ID => self.running.number_on_offer = Some(data as u8),
             rows::SET_POINT_1 => self.write_set_point_1(data, telegram.control_word()),
             rows::SET_POINT_2 => return self.write_set_point_2(data, telegram.control_word()),
             _ => self.values[place_of(parameter)] = data as i32,
@@ -448,6 +467,25 @@ impl Head {
         }
     }
 
+    /// With a number on offer the key adopts it, whatever 35h says, and does nothing else.
+    fn up_pressed(&mut self, status_word_before: u16) -> Option<Reply> {
+        if let Some(number) = self.running.number_on_offer {
+            return Some(self.adopt(number, status_word_before));
+        }
+        if self.value(rows::INCREMENTAL_KEY_ENABLE) == 1 {
+            self.switch_incremental();
+        }
+        None
+    }
+
+    /// The reply that the offer went without, from the number that it was sent to. The restart comes last: it
+    /// takes the new number into force, drops the offer and forgets the keys.
+    fn adopt(&mut self, number: u8, status_word_before: u16) -> Reply {
+        self.values[place_of(rows::NODE_ADDRESS)] = i32::from(number);
+        self.restart();
+        Telegram::new(WRITE, FACTORY_NODE, rows::AUTO_ID, status_word_before, u32::from(number)).bytes()
+    }
+
     fn switch_incremental(&mut self) {
         self.running.incremental_start = match self.running.incremental_start {
             Some(_) => None,
@@ -556,6 +594,17 @@ impl Head {
 
 fn place_of(address: u8) -> usize {
     rows::place(address).expect("only stored parameters are asked for")
+}
+
+/// An offer is answered by the key that adopts it, a broadcast never.
+fn is_answered(telegram: &Telegram) -> bool {
+    !telegram.is_broadcast() && telegram.parameter() != rows::AUTO_ID
+}
+
+/// Whether a telegram is refused for an illegal new number: only a write at a head that could take one comes
+/// as far as the range.
+fn aborts_auto_id(telegram: &Telegram, code: ErrorCode) -> bool {
+    telegram.parameter() == rows::AUTO_ID && matches!(code, VALUE_BELOW_LOW | VALUE_ABOVE_HIGH)
 }
 
 /// The number that a 96h read asks for: its first data byte, the others are ignored.

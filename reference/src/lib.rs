@@ -1,6 +1,6 @@
-//! A line of SIKONETZ5 heads, written from document 01, request (i) of document 02 and the AP05 manual in
-//! ordinary mutable style, and the check of an order form. DECISIONS.md lists the points that the documents
-//! leave open and what is done about each.
+//! A line of SIKONETZ5 heads, written from document 01, requests (i) and (ii) of document 02 and the AP05
+//! manual in ordinary mutable style, and the check of an order form. DECISIONS.md lists the points that the
+//! documents leave open and what is done about each.
 
 pub mod form;
 pub mod head;

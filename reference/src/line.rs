@@ -79,13 +79,21 @@ impl Line {
         Ok(())
     }
 
-    pub fn keys(&mut self, head: u32, state: u32) -> Result<(), Refusal> {
+    /// The answer is whether the head replied, as it does when it adopts a number; the reply stands in the
+    /// first ten bytes of the space, and without one it is as it was.
+    pub fn keys(&mut self, head: u32, state: u32, space: &mut [u8]) -> Result<bool, Refusal> {
         let head = self.head(head)?;
         if state > HIGHEST_KEY_STATE {
             return Err(Refusal::KeyState);
         }
-        head.set_keys(state as u8);
-        Ok(())
+        if space.len() < TELEGRAM_LENGTH {
+            return Err(Refusal::ReplySpace);
+        }
+        let reply = head.set_keys(state as u8);
+        if let Some(reply) = &reply {
+            space[..TELEGRAM_LENGTH].copy_from_slice(reply);
+        }
+        Ok(reply.is_some())
     }
 
     pub fn power(&mut self, head: u32) -> Result<(), Refusal> {

@@ -30,6 +30,7 @@ pub const SYSTEM_COMMAND: u8 = 0xA0;
 pub const CALIBRATION_TRAVEL: u8 = 0xA7;
 pub const PROGRAMMING_MODE: u8 = 0xA8;
 pub const FREEZE: u8 = 0xAA;
+pub const AUTO_ID: u8 = 0xD2;
 pub const STATUS_WORD: u8 = 0xFA;
 pub const SET_POINT_1: u8 = 0xFB;
 pub const DIFFERENTIAL_VALUE: u8 = 0xFC;
@@ -121,7 +122,7 @@ pub fn access(address: u8) -> Access {
         DEVICE_IDENTIFICATION | SOFTWARE_VERSION | ERROR_COUNT | INPUT_ERRORS => Access::ReadOnly,
         FIRST_ERROR..=LAST_ERROR => Access::ReadOnly,
         STATUS_WORD | DIFFERENTIAL_VALUE | PENDING_ERROR | POSITION_VALUE => Access::ReadOnly,
-        SYSTEM_COMMAND | CALIBRATION_TRAVEL | PROGRAMMING_MODE | FREEZE => Access::WriteOnly,
+        SYSTEM_COMMAND | CALIBRATION_TRAVEL | PROGRAMMING_MODE | FREEZE | AUTO_ID => Access::WriteOnly,
         _ if place(address).is_some() => Access::ReadAndWrite,
         _ => Access::Unknown,
     }
@@ -131,7 +132,7 @@ pub fn may_be_broadcast(address: u8) -> bool {
     matches!(address, SYSTEM_COMMAND | PROGRAMMING_MODE | FREEZE)
 }
 
-/// A8h is not among these: locking it would leave nobody able to unlock.
+/// A8h is not among these: locking it would leave nobody able to unlock. Nor is D2h, by its entry in the manual.
 pub fn is_lockable(address: u8) -> bool {
     address == SYSTEM_COMMAND || place(address).is_some()
 }
@@ -150,6 +151,7 @@ pub fn limits(address: u8) -> Option<(i64, i64)> {
         SYSTEM_COMMAND => Some((1, 9)),
         CALIBRATION_TRAVEL | FREEZE => Some((1, 1)),
         PROGRAMMING_MODE => Some((0, 1)),
+        AUTO_ID => Some((1, 31)),
         _ => place(address).map(|place| (i64::from(ROWS[place].low), i64::from(ROWS[place].high))),
     }
 }
@@ -199,12 +201,12 @@ mod tests {
         let count = |group| (0..=255).filter(|&address| access(address) == group).count();
         assert_eq!(count(Access::ReadAndWrite), 39 + 2);
         assert_eq!(count(Access::ReadOnly), 2 + 1 + 10 + 1 + 4);
-        assert_eq!(count(Access::WriteOnly), 4);
+        assert_eq!(count(Access::WriteOnly), 4 + 1);
     }
 
     #[test]
     fn what_the_manual_has_and_the_document_leaves_out_is_unknown() {
-        for address in [0x63, 0xC5, 0xCF, 0xD2, 0x8B, 0x1D, 0x41] {
+        for address in [0x63, 0xC5, 0xCF, 0xD1, 0xD3, 0x8B, 0x1D, 0x41] {
             assert_eq!(access(address), Access::Unknown);
         }
     }
@@ -231,6 +233,17 @@ mod tests {
             assert_eq!(check_value(SYSTEM_COMMAND, value), Ok(()));
         }
         assert_eq!(check_value(SYSTEM_COMMAND, 10), Err(VALUE_ABOVE_HIGH));
+    }
+
+    #[test]
+    fn auto_id_offers_1_to_31_in_all_four_data_bytes() {
+        assert_eq!(check_value(AUTO_ID, 0), Err(VALUE_BELOW_LOW));
+        for value in 1..=31 {
+            assert_eq!(check_value(AUTO_ID, value), Ok(()));
+        }
+        for value in [32, 127, 255, 256 + 5, 0x0500_0000, 0x8000_0005, u32::MAX] {
+            assert_eq!(check_value(AUTO_ID, value), Err(VALUE_ABOVE_HIGH));
+        }
     }
 
     #[test]

@@ -1,6 +1,7 @@
 //! The script: what a line means, and the answer to it.
 
 use crate::line::{Line, Refusal};
+use crate::telegram::TELEGRAM_LENGTH;
 use std::fmt::Write as _;
 use std::io::{self, BufRead, ErrorKind, Write};
 
@@ -20,12 +21,15 @@ line, words separated by blanks or tabs, one line of output for each.
   keys HEAD STATE      a head's keys: 1 left, 2 star, 4 up, or a sum of these
   power HEAD           switch a head off and on
   xor HEAD             which bits were hit in the last damaged telegram heard
-  space SIZE           how much reply space bytes lend, 0 to 64; 10 at first
+  space SIZE           how much reply space bytes and keys lend, 0 to 64; 10 at
+                       first
 
 Numbers are decimal, TIME is in milliseconds. Blank lines and lines whose first
 word starts with # are passed over.
 
   ok                   done
+  ok REPLY             done, and up took a number that D2h had offered the head:
+                       its reply as twenty hex digits
   sent ...             the bytes are fed; then each reply as twenty hex digits,
                        or 'collision N' where N heads replied at once
   xor HH               the exclusive-or of its ten bytes as two hex digits; 00
@@ -169,7 +173,7 @@ impl Simulation {
                 Ok(())
             }
             Command::Measure { head, value } => self.line.measure(head, value),
-            Command::Keys { head, state } => self.line.keys(head, state),
+            Command::Keys { head, state } => return self.keys(head, state),
             Command::Power { head } => self.line.power(head),
             Command::Xor { head } => return self.xor(head),
             Command::Space { size } => {
@@ -193,12 +197,21 @@ impl Simulation {
                 Ok(0) => {}
                 Ok(1) => {
                     answer.push(' ');
-                    answer.push_str(&hex(&space[..crate::telegram::TELEGRAM_LENGTH]));
+                    answer.push_str(&hex(&space[..TELEGRAM_LENGTH]));
                 }
                 Ok(replies) => write!(answer, " collision {replies}").expect("a string takes it"),
             }
         }
         answer
+    }
+
+    fn keys(&mut self, head: u32, state: u32) -> String {
+        let mut space = vec![0; self.space];
+        match self.line.keys(head, state, &mut space) {
+            Ok(false) => "ok".to_string(),
+            Ok(true) => format!("ok {}", hex(&space[..TELEGRAM_LENGTH])),
+            Err(refusal) => refused(refusal),
+        }
     }
 
     fn xor(&self, head: u32) -> String {

@@ -21,6 +21,7 @@ pub const UNKNOWN_PARAMETER: ErrorCode = 0x0083;
 pub const COMMAND_NOT_SUPPORTED: ErrorCode = 0x0084;
 pub const WRITE_TO_READ_ONLY: ErrorCode = 0x0184;
 pub const READ_OF_WRITE_ONLY: ErrorCode = 0x0284;
+pub const DEVICE_STATUS: ErrorCode = 0x0085;
 pub const PROGRAMMING_LOCKED: ErrorCode = 0x0385;
 
 pub type Reply = [u8; TELEGRAM_LENGTH];

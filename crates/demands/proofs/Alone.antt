@@ -1,38 +1,50 @@
 -- What power, a tick, a measurement and a key state do to a head alone: each sentence, by the tests that it names.
 -- Assumes nothing.
-use Prim.Native.Nat.{ℕ}
+use Prim.Native.Nat.{ℕ, _<_, _≤_}
 use native.Mathlib.Omega.{arith}
-use mathlib.Core.Path.{_≡_, refl, _∙_, ap}
-use mathlib.Core.Bool.{Bool, true, false, cond, not, _&&_}
-use borrow.Author.Tests.{eqb-true}
-use lib.Dec.{leb, eqb}
+use mathlib.Core.Path.{_≡_, refl, sym, _∙_, ap}
+use mathlib.Core.Bool.{Bool, true, false, cond, not, _&&_, true≢false}
+use mathlib.Core.List.{List, [], _∷_}
+use borrow.Author.Tests.{eqb-true, le-leb, le-ltb}
+use lib.Dec.{eqb}
 use lib.IntN.{ℤ, pos}
+use lib.ListN.{length, drop, length-append, length-drop}
+use lib.Seq.{getD-set-same, getD-set-other, take-at, drop-at}
+use Rattle.wire.specs.declared.telegram.Telegram.{Telegram}
+use Rattle.wire.specs.Telegram.{fieldsOf}
+use Rattle.wire.proofs.Laws.{built-fields}
+use Rattle.rows.specs.Table.{rows}
+use Rattle.rows.specs.Ranges.{allRightOf}
 use Rattle.state.specs.declared.parts.Head.{Head}
 use Rattle.state.specs.declared.parts.Faults.{Faults}
 use Rattle.state.specs.Settings.{calibrationKeyPlace, calibrationPlace, incrementalKeyPlace}
 use Rattle.state.specs.Errors.{emptyList}
-use Rattle.state.specs.Status.{aimedOf, withinOf}
+use Rattle.state.specs.Status.{aimedOf, statusOf, withinOf}
 use Rattle.state.specs.Wellformed.{inReachOf, wellformedOf}
-use Rattle.state.proofs.Laws.{within-bit}
-use Rattle.effects.specs.Stored.{restartedStored}
+use Rattle.state.proofs.Laws.{within-bit, status-fits, told, stored-told, offer-told}
+use Rattle.effects.specs.Stored.{adoptedStored, restartedStored}
 use Rattle.effects.specs.Faults.{raisedOf, restartedFaults}
 use Rattle.effects.specs.Measured.{calibratedOf, switchedOf, movedOf, restartedMeasurement}
 use Rattle.effects.specs.Aimed.{noTargets, settledOf}
-use Rattle.effects.specs.Restart.{emptyEar, stopped, restartedOf, freshOf}
+use Rattle.effects.specs.Restart.{emptyEar, stopped, restartedOf, withStored, adoptedOf, freshOf}
+use Rattle.reply.specs.Reply.{adoptionOf}
+use Rattle.reply.proofs.Replies.{adoption-sound, adoption-ten}
 use Rattle.head.specs.declared.calls.Answer.the-variants as answer
 use Rattle.head.specs.declared.calls.Called.{Called}
+use Rattle.head.specs.declared.calls.Heard.the-variants as heard
 use Rattle.head.specs.Hear.{elapsedOf}
-use Rattle.head.specs.Moves.{overdueOf, tickedOf, measuredOf, pressedOf, leftOf, upOf, keyedOf, withKeys}
+use Rattle.head.specs.Moves.{overdueOf, tickedOf, measuredOf, upKey, pressedOf, leftOf, upOf, leftTaken, keyedOf, withKeys}
 use Rattle.head.specs.Outcome as alone
-use Rattle.head.specs.Calls.{nodeFits, madeOf, tickOf, measureOf, keysOf, powerOf}
+use Rattle.head.specs.Calls.{nodeFits, madeOf, laidOn, fedWith, spaceWith, tickOf, measureOf, keysOf, keysSpaceOf, powerOf}
+use Rattle.head.proofs.Passes.{unanswered}
 use Rattle.demands.specs.Past.{since}
-use Rattle.demands.specs.Alone.{overdue, newly, setting, Restarted, Ticked, Measured, Keyed, New}
+use Rattle.demands.specs.Alone.{Taken, overdue, newly, adopts, setting, Restarted, Ticked, Measured, Keyed, Adopted, Announces, Announced, New}
 use Rattle.demands.proofs.Sim.{fresh-values}
 
 pub restarted : (h : Head) → Restarted h (restartedOf h)
 unfolding restartedOf restartedStored restartedFaults restartedMeasurement noTargets stopped emptyEar emptyList
 restarted h =
-    record { values = refl; unlocked = refl; memory = refl; zero = refl; adopted = refl; m = refl; number = refl; baud = refl; first = refl; valid1 = refl; second = refl; valid2 = refl; word = refl; reached = refl; pending = refl; hit = refl; damaged = refl; inputs = refl; keys = refl; frozen = refl; kept = refl; incremental = refl; start = refl; running = refl; since′ = refl; gathered = refl }
+    record { values = refl; unlocked = refl; memory = refl; zero = refl; adopted = refl; m = refl; number = refl; baud = refl; offer = refl; first = refl; valid1 = refl; second = refl; valid2 = refl; word = refl; reached = refl; pending = refl; hit = refl; damaged = refl; inputs = refl; keys = refl; frozen = refl; kept = refl; incremental = refl; start = refl; running = refl; since′ = refl; gathered = refl }
 
 pub ticked : (h : Head) (t : ℕ) → Ticked h (tickedOf h t) t
 unfolding tickedOf overdueOf elapsedOf since raisedOf stopped
@@ -105,8 +117,9 @@ up on x = go (on && eqb (setting x incrementalKeyPlace) 1) refl (x .measurement 
     go true e true f = rw (e, f) (refl, refl, refl, refl, refl, refl, refl, refl, refl, refl, refl, refl, refl)
     go true e false f = rw (e, f) (refl, refl, refl, refl, refl, refl, refl, refl, refl, refl, refl, refl, refl)
 
-pub keyed : (h : Head) (s : ℕ) → Keyed h (keyedOf h s) s
-unfolding keyedOf pressedOf
+-- of a key state that adopts no number
+pub keyed : (h : Head) (s : ℕ) → Keyed h (upOf (pressedOf s (h .keys) upKey) (leftTaken h s)) s
+unfolding pressedOf
 keyed h s =
     let l = left (newly 1 h s) (withKeys h s) in
     let u = up (newly 4 h s) (leftOf (newly 1 h s) (withKeys h s)) in
@@ -128,6 +141,31 @@ keyed h s =
       targets = u .9 ∙ l .13;
       monitor = u .10 ∙ l .14;
       ear = u .11 ∙ l .15;
+    }
+
+-- of one that does: the number is stored, which the values have a place for
+some-value : (vs : List ℕ) → allRightOf vs ≡ true → 0 < length vs
+unfolding allRightOf rows
+some-value [] e = absurd (true≢false (sym e))
+some-value (v ∷ vs) e = omega arith
+
+adopted : (h : Head) (s : ℕ) → wellformedOf h ≡ true → Adopted h (adoptedOf (leftTaken h s)) s
+unfolding adoptedOf adoptedStored pressedOf
+adopted h s w =
+    let l = left (newly 1 h s) (withKeys h s) in
+    let n = some-value (h .stored .values) (stored-told (h .stored) (told h w .stored) .values) in
+    record {
+      before = withStored (leftTaken h s) (adoptedStored (leftTaken h s .stored));
+      adopting = record {
+        node = rw (l .12) (getD-set-same (h .stored .values) 0 (h .stored .offer) 0 n);
+        values = λ r ne. rw (l .12) (getD-set-other (h .stored .values) 0 r (h .stored .offer) 0 ne);
+        unlocked = rw (l .12);
+        zero = l .1;
+        adopted = l .2;
+        m = l .5;
+        memory = l .8;
+      };
+      restarted = restarted _;
     }
 
 -- ---- the calls, where they are done
@@ -155,11 +193,55 @@ module _ (h : Head) where
       taken (λ c. Measured h (c .head) m) (wellformedOf h) _ _ (λ e. cc)
       (taken (λ c. Measured h (c .head) m) (inReachOf m) _ _ (λ e. cc) (λ _. measured h m))
 
-  pub presses : (s : ℕ) → alone.called (alone.keys s) h .answer ≡ answer.Done → Keyed h (alone.called (alone.keys s) h .head) s
-  unfolding alone.called keysOf
-  presses s =
-      taken (λ c. Keyed h (c .head) s) (wellformedOf h) _ _ (λ e. cc)
-      (taken (λ c. Keyed h (c .head) s) (leb s 7) _ _ (λ e. cc) (λ _. keyed h s))
+announces : (number status : ℕ) → number < 4294967296 → status < 65536 → Announces (fieldsOf (adoptionOf status number)) number status
+unfolding adoptionOf
+announces number status n t =
+    let x : Telegram = record { command = 1; node = 31; parameter = 0xD2; word = status; value = number } in
+    let e = built-fields x (record { command = omega arith; node = omega arith; parameter = omega arith; word = t; value = n }) in
+    rw e record { command = refl; node = refl; parameter = refl; word = refl; value = refl }
+
+-- what is laid where a number is adopted
+announced : (h : Head) (space : List ℕ) → Taken h space → Announced h space (laidOn space (adoptionOf (statusOf h) (h .stored .offer)))
+unfolding laidOn
+announced h space k =
+    let x = adoptionOf (statusOf h) (h .stored .offer) in
+    let ten : length x ≡ 10 = adoption-ten (statusOf h) (h .stored .offer) in
+    let most = offer-told _ _ (stored-told (h .stored) (told h (k .well) .stored) .offer) .0 in
+    rw (le-ltb (length space) 10 (k .room)) record {
+      long = omega (arith, length-append x (drop 10 space), length-drop 10 space, k .room);
+      rest = drop-at x (drop 10 space) 10 ten;
+      passes = rw (take-at x (drop 10 space) 10 ten) (adoption-sound (statusOf h) (h .stored .offer));
+      fields = rw (take-at x (drop 10 space) 10 ten) (announces (h .stored .offer) (statusOf h) (omega arith) (status-fits h));
+    }
+
+-- the two ways of a key state
+keyed-up : (h : Head) (s : ℕ) → adopts h s ≡ false → keyedOf h s ≡ unanswered (upOf (pressedOf s (h .keys) upKey) (leftTaken h s))
+unfolding keyedOf pressedOf
+keyed-up h s e = rw e
+
+keyed-adopts : (h : Head) (s : ℕ) → adopts h s ≡ true
+    → keyedOf h s ≡ record { head = adoptedOf (leftTaken h s); replied = true; reply = adoptionOf (statusOf h) (h .stored .offer) }
+unfolding keyedOf pressedOf
+keyed-adopts h s e = rw e
+
+-- a key state that is taken: what the head does with it, and the space that it leaves
+module _ (h : Head) (s : ℕ) (space : List ℕ) (k : Taken h space) (few : s ≤ 7) where
+  pub keys-taken : (keysOf h s (length space) ≡ fedWith (keyedOf h s)) × (keysSpaceOf h s space ≡ spaceWith (keyedOf h s) space)
+  unfolding keysOf keysSpaceOf
+  keys-taken =
+      let p = le-leb s 7 few in let r = le-ltb (length space) 10 (k .room) in (rw (k .well, p, r), rw (k .well, p, r))
+
+  pub presses : adopts h s ≡ false
+      → Keyed h (keysOf h s (length space) .head) s × (keysOf h s (length space) .heard ≡ heard.Replies 0) × (keysSpaceOf h s space ≡ space)
+  presses e =
+      rw (keys-taken .0, keys-taken .1, keyed-up h s e) (keyed h s, refl, refl)
+
+  pub adopting : adopts h s ≡ true
+      → Adopted h (keysOf h s (length space) .head) s
+      × (keysOf h s (length space) .heard ≡ heard.Replies 1)
+      × Announced h space (keysSpaceOf h s space)
+  adopting e =
+      rw (keys-taken .0, keys-taken .1, keyed-adopts h s e) (adopted h s (k .well), refl, announced h space k)
 
 -- ---- a new head
 fresh : (node : ℕ) → New (freshOf node) node

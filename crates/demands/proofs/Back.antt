@@ -26,7 +26,7 @@ use Rattle.judge.specs.declared.judged.Judged.{Judged}
 use Rattle.judge.specs.declared.verdict.Verdict.the-variants.{Obeyed}
 use Rattle.judge.specs.declared.verdict.Standing.{Standing}
 use Rattle.judge.specs.Commands.{commandOf}
-use Rattle.judge.specs.Checks.{_else_, sumCheck, nodeCheck, commandCheck, parameterCheck, accessCheck, lockCheck, valueCheck, numberCheck, hushOf}
+use Rattle.judge.specs.Checks.{_else_, sumCheck, nodeCheck, commandCheck, parameterCheck, accessCheck, lockCheck, stateCheck, valueCheck, numberCheck, hushOf}
 use Rattle.judge.specs.Verdicts.{lateOf, mineOf, verdictOf}
 use Rattle.judge.specs.Judged.{judgedOf}
 use Rattle.state.specs.declared.parts.Head.{Head}
@@ -63,7 +63,7 @@ not-number : (a : ℕ) → accessOf a ≡ ReadWrite → eqb a 0x96 ≡ false
 not-number a e = ne-eqb a 0x96 (λ q. let z : _≡_ {A = ℕ} 0 1 = cc (number-access a (eq-eqb a 0x96 q)) in omega arith)
 
 read-obeyed : (t : Telegram) (s : Standing) → commandOf (t .command) ≡ Read → mineOf t s ≡ true → accessOf (t .parameter) ≡ ReadWrite → verdictOf 0 t s ≡ Obeyed
-unfolding verdictOf sumCheck nodeCheck lateOf hushOf commandCheck parameterCheck accessCheck lockCheck valueCheck numberCheck _else_
+unfolding verdictOf sumCheck nodeCheck lateOf hushOf commandCheck parameterCheck accessCheck lockCheck stateCheck valueCheck numberCheck _else_
 read-obeyed t s c m a = rw (c, m, a, not-number (t .parameter) a, and-false)
 
 -- ---- so the head answers it with the value

@@ -11,6 +11,7 @@ use Rattle.state.specs.Settings.{window1Place, window2Place}
 use Rattle.state.specs.Bits.{bit, bitSet}
 use Rattle.state.specs.Status.{aimOf, aimBitsOf, restBitsOf, aimedOf, statusOf}
 use Rattle.state.proofs.Bits.{bit-most, bit-weighs}
+use Rattle.state.proofs.Laws.{status-fits}
 use Rattle.demands.specs.Bits.{actual, aimed, near, onward, Bits}
 
 is-set : (w n : ℕ) (on : Bool) → w / 2 ^ n % 2 ≡ bit 0 on → bitSet w n ≡ on
@@ -37,8 +38,10 @@ module _ (b0 b1 b2 b3 b4 b5 b6 b7 b8 b9 b10 k : ℕ) where
       × (sum / 2 ^ 13 % 2 ≡ k % 2)
       × (sum / 2 ^ 14 % 2 ≡ k / 2 % 2)
       × (sum / 2 ^ 15 % 2 ≡ k / 4 % 2)
+      × (sum / 2 ^ 11 % 2 ≡ 0)
+      × (sum / 2 ^ 12 % 2 ≡ 0)
   digits p0 p1 p2 p3 p4 p5 p6 p7 p8 p9 p10 =
-      (omega arith, omega arith, omega arith, omega arith, omega arith, omega arith, omega arith, omega arith, omega arith, omega arith, omega arith, omega arith, omega arith, omega arith)
+      (omega arith, omega arith, omega arith, omega arith, omega arith, omega arith, omega arith, omega arith, omega arith, omega arith, omega arith, omega arith, omega arith, omega arith, omega arith, omega arith)
 
 module _ (h : Head) where
   abbrev on0 : Bool
@@ -100,6 +103,9 @@ module _ (h : Head) where
         bit8 = is-set (statusOf h) 8 on8 (rw status-is (d .8));
         bit9 = is-set (statusOf h) 9 on9 (rw status-is (d .9));
         bit10 = is-set (statusOf h) 10 on10 (rw status-is (d .10));
+        bit11 = is-set (statusOf h) 11 false (rw status-is (d .14));
+        bit12 = is-set (statusOf h) 12 false (rw status-is (d .15));
+        sixteen = status-fits h;
         bit13 = rw (status-is, d .11, low);
         bit14 = rw (status-is, d .12, middle);
         bit15 = rw (status-is, d .13, high);

@@ -15,8 +15,8 @@ use Rattle.demands.specs.Demand2.{Demand2}
 use Rattle.demands.proofs.Answers.{gathers, obeys, answers, keeps-silent, head-sound, line-sound, restarts}
 use Rattle.demands.proofs.Every.{every}
 use Rattle.demands.proofs.Bits.{bits}
-use Rattle.demands.proofs.Alone.{makes, powers, ticks, measures, presses}
-use Rattle.demands.proofs.Lines.{line-count, line-heads, line-counts, line-lays-not, line-silent, line-one, line-ticks, line-ticked, line-asks, line-grows, shows, line-shows}
+use Rattle.demands.proofs.Alone.{makes, powers, ticks, measures, presses, adopting}
+use Rattle.demands.proofs.Lines.{line-count, line-heads, line-counts, line-lays-not, line-silent, line-one, line-ticks, line-ticked, line-asks, line-presses, line-grows, shows, line-shows}
 
 pub demand2 : Demand2 product
 demand2 =
@@ -36,6 +36,7 @@ demand2 =
       ticks = ticks;
       measures = measures;
       presses = presses;
+      adopting = adopting;
       shows = shows;
       remembers = remembers;
       line-hears = λ l b t space f r. (line-heads l b t space f r, line-count l b t space f r);
@@ -44,6 +45,7 @@ demand2 =
       line-collides = λ l b t space f r two. (line-counts l b t space f r, line-lays-not l b t space f r (λ one. omega arith));
       line-ticks = λ l t f. (line-ticks l f t, line-ticked l f t .0, line-ticked l f t .1);
       line-asks = λ l i a f p. line-asks l f i a p;
+      line-presses = λ l i s space f p. line-presses l f i s space p;
       line-grows = λ l node f p. line-grows l f node p;
       line-shows = λ l i f p. line-shows l f i p;
     }

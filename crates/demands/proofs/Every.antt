@@ -1,362 +1,221 @@
--- What is the same for every telegram: a reply is said with the status word handed in, and a read shows, clears the static bit or releases.
+-- What is the same for every telegram: the laws of Telling over the byte call; and an error reply, an accepted write and a telegram that is passed over, each
+-- known by what can be seen of it.
 -- Assumes nothing.
-use Prim.Native.Nat.{ℕ, _+_, _<_}
+use Prim.Native.Nat.{ℕ, _<_}
 use native.Mathlib.Omega.{arith}
 use mathlib.Core.Path.{_≡_, refl, sym, _∙_, ap}
-use mathlib.Core.Bool.{Bool, true, false, cond, not, _&&_, true≢false}
-use mathlib.Core.Logic.{_≢_, _⊎_, inl, inr}
-use mathlib.Core.List.{List, _++_}
+use mathlib.Core.Bool.{Bool, true, false, not, and-eq-true-iff, true≢false}
+use mathlib.Core.Logic.{_≢_}
+use mathlib.Core.List.{List}
 use borrow.Author.Tests.{ne-eqb}
-use lib.Dec.{eqb, ltb}
+use lib.Dec.{eqb}
 use lib.ListN.{length, take, drop}
 use lib.Seq.{take-at}
 use Rattle.wire.specs.declared.telegram.Telegram.{Telegram}
 use Rattle.wire.specs.declared.fault.Fault.{Fault}
-use Rattle.wire.specs.declared.fault.Fault.the-variants.{CheckSum}
 use Rattle.wire.specs.Check.{hitOf}
 use Rattle.wire.specs.Faults.{codeOf}
 use Rattle.wire.specs.Telegram.{fieldsOf, bytesOf}
-use Rattle.wire.proofs.Laws.{half-bytes}
-use Rattle.rows.specs.declared.kind.Kind.{Kind}
-use Rattle.rows.specs.declared.kind.Kind.the-variants.{Stored}
-use Rattle.rows.specs.Kinds.{kindOf}
-use Rattle.rows.specs.Table.{rowOf, address}
-use Rattle.rows.proofs.Laws.{row-place}
+use Rattle.wire.proofs.Laws.{word-bytes}
 use Rattle.judge.specs.declared.command.Command.{Command}
 use Rattle.judge.specs.declared.command.Command.the-variants.{Read, Write, Broadcast, Other}
-use Rattle.judge.specs.declared.deed.Deed.{Deed}
-use Rattle.judge.specs.declared.deed.Deed.the-variants.{Nothing, Store, Reset, Restart, Calibrate, Forget, Unlock, Freeze, Aim1, Aim2, ClearStatic, Release}
 use Rattle.judge.specs.declared.judged.Judged.{Judged}
 use Rattle.judge.specs.declared.verdict.Verdict.{Verdict}
 use Rattle.judge.specs.declared.verdict.Verdict.the-variants.{Obeyed, Silent, Refused}
 use Rattle.judge.specs.Commands.{commandOf}
-use Rattle.judge.specs.Checks.{_else_, sumCheck, nodeCheck}
-use Rattle.judge.specs.Deeds.{shownBy, doneBy, deedOf}
-use Rattle.judge.specs.Verdicts.{lateOf, mineOf, verdictOf}
 use Rattle.judge.specs.Judged.{judgedOf}
-use Rattle.judge.proofs.Laws.{casts-is, obeyed-sound}
+use Rattle.judge.proofs.Laws.{isObeyed, cast-never-refused}
+use Rattle.judge.proofs.Offers.{drops}
 use Rattle.state.specs.declared.parts.Head.{Head}
 use Rattle.state.specs.declared.parts.Stored as parts
 use Rattle.state.specs.declared.parts.Faults.{Faults}
-use Rattle.state.specs.Bits.{bitSet}
-use Rattle.state.specs.Errors.{rememberedOf}
 use Rattle.state.specs.Status.{statusOf}
-use Rattle.state.proofs.Laws.{status-fits}
-use Rattle.effects.specs.Stored.{storedBy}
-use Rattle.effects.specs.Faults.{withInputs, withPending, withDamaged, withHit, raisedOf, countedOf, complainedOf, acknowledgedOf, restartedFaults, faultsBy}
-use Rattle.effects.specs.Measured.{measurementBy, releasedOf}
-use Rattle.effects.specs.Aimed.{targetsBy, clearedOf}
-use Rattle.effects.specs.Restart.{restartedOf}
+use Rattle.effects.specs.Stored.{lockedOf}
+use Rattle.effects.specs.Faults.{countedOf, complainedOf}
+use Rattle.effects.specs.Restart.{emptyEar}
 use Rattle.reply.specs.declared.Said.{Said}
-use Rattle.reply.specs.Reply.{silence, said, errorReply, valueReply, replyBy, replyOf}
-use Rattle.reply.proofs.Replies.{reply-ten}
+use Rattle.reply.specs.Reply.{silence, said, answerOf, valueReply, replyBy, replyOf}
+use Rattle.reply.proofs.Replies.{reply-ten, silent-none}
 use Rattle.head.specs.declared.calls.Heard.the-variants as heard
-use Rattle.head.specs.Hear.{gatheredOf, standingOf, restartsOf, startedOf, affectedOf, toldOf}
-use Rattle.head.proofs.Refused.{Unheeded, silent, refused, unheeded-only}
+use Rattle.head.specs.Hear.{gatheredOf, standingOf, startedOf, toldOf, passesOf, passedOf, tellOf}
+use Rattle.head.specs.declared.hear.Stepped.{Stepped}
+use Rattle.head.proofs.Passes.{passes-tell}
+use Rattle.head.proofs.Refused.{silent, refused, unheeded-only}
 use Rattle.demands.specs.Run.{product}
 use Rattle.demands.specs.Alone.{Taken}
-use Rattle.demands.specs.Every.{Copies, Polled, Damaged, mine, Every}
-use Rattle.demands.proofs.Sorts.{value-kind}
+use Rattle.demands.specs.Past.{accepted}
+use Rattle.demands.specs.Every.{Passed, Complained, locked, Every}
+use Rattle.demands.proofs.Telegram.{accepted-is}
 use Rattle.demands.proofs.Answers.{obeys, answers, keeps-silent}
+use Rattle.demands.proofs.Telling.{either, judging, copies, read-still, still-polls, write-sets, setting-keeps, told-stays, told-starts, complained-is, told-spares, unheeded-faults, told-counts, refused-told, refuses, told-complains}
 
--- ---- what is said copies
-abbrev Loud : Telegram → ℕ → Said → Type 0
-Loud t word s = s .replied ≡ true → Copies t (fieldsOf (s .reply)) word
+-- ---- an error reply, known by its parameter: what is obeyed is answered with the telegram's own
+abbrev Own : Telegram → Said → Type 0
+Own t s = s .replied ≡ true → fieldsOf (s .reply) .parameter ≡ t .parameter
 
-said-copies : (t : Telegram) (parameter word value : ℕ) → word < 65536 → Loud t word (said t parameter word value)
+said-own : (t : Telegram) (word value : ℕ) → Own t (said t (t .parameter) word value)
 unfolding said fieldsOf bytesOf
-said-copies t parameter word value small e = record { command = refl; node = refl; word = half-bytes word small }
+said-own t word value e = refl
 
-silence-copies : (t : Telegram) (word : ℕ) → Loud t word silence
+silence-own : (t : Telegram) → Own t silence
 unfolding silence
-silence-copies t word e = absurd (true≢false (sym e))
+silence-own t e = absurd (true≢false (sym e))
 
-value-copies : (c : Command) (j : Judged) (h : Head) (word : ℕ) → word < 65536 → j .command ≡ c → Loud (j .telegram) word (valueReply j h word)
+value-own : (c : Command) (j : Judged) (h : Head) (word : ℕ) → j .command ≡ c → Own (j .telegram) (valueReply j h word)
 unfolding valueReply
-value-copies Read j h word small e = rw e (said-copies (j .telegram) _ word _ small)
-value-copies Write j h word small e = rw e (said-copies (j .telegram) _ word _ small)
-value-copies Broadcast j h word small e = rw e (silence-copies (j .telegram) word)
-value-copies Other j h word small e = rw e (silence-copies (j .telegram) word)
+value-own Read j h word e = rw e (said-own (j .telegram) word _)
+value-own Write j h word e =
+    rw e (either (Own (j .telegram)) (not (eqb (j .telegram .parameter) 0xD2)) (said-own (j .telegram) word _) (silence-own (j .telegram)))
+value-own Broadcast j h word e = rw e (silence-own (j .telegram))
+value-own Other j h word e = rw e (silence-own (j .telegram))
 
-reply-copies : (v : Verdict) (j : Judged) (h : Head) (word : ℕ) → word < 65536 → Loud (j .telegram) word (replyBy v j h word)
-unfolding errorReply
-reply-copies Obeyed j h word small = value-copies (j .command) j h word small refl
-reply-copies Silent j h word small = silence-copies (j .telegram) word
-reply-copies (Refused fault) j h word small = said-copies (j .telegram) _ word _ small
+reply-own : (v : Verdict) (j : Judged) (h : Head) (word : ℕ) → v ≡ Obeyed → Own (j .telegram) (replyBy v j h word)
+reply-own Obeyed j h word e = value-own (j .command) j h word refl
+reply-own Silent j h word e = silence-own (j .telegram)
+reply-own (Refused f) j h word e = let z : _≡_ {A = ℕ} 0 1 = cc in absurd (omega arith)
 
-abbrev judging : Head → ℕ → ℕ → Judged
-judging h b t = judgedOf (gatheredOf (h .ear) b t .ten) (standingOf h)
+-- the errors but for the input list, after a sound telegram that is refused
+counted-sound : (x : ℕ) (f : Faults) → x ≡ 0 → (countedOf x f .memory ≡ f .memory) × (countedOf x f .pending ≡ f .pending)
+unfolding countedOf
+counted-sound x f e = rw e (refl, refl)
 
-copies : (h : Head) (b t : ℕ) (space : List ℕ) → Taken h space → gatheredOf (h .ear) b t .whole ≡ true
-    → product .onHead .byte h b t (length space) .heard ≡ heard.Replies 1
-    → Copies (fieldsOf (gatheredOf (h .ear) b t .ten)) (fieldsOf (take 10 (product .onHead .space h b t space))) (statusOf h)
-unfolding judgedOf replyOf
-copies h b t space k e one = go (replyOf (judging h b t) h (statusOf h) .replied) refl
-  where
-    go : (r : Bool) → replyOf (judging h b t) h (statusOf h) .replied ≡ r
-        → Copies (fieldsOf (gatheredOf (h .ear) b t .ten)) (fieldsOf (take 10 (product .onHead .space h b t space))) (statusOf h)
-    go true r =
-        rw (answers h b t space k e r .1, take-at (replyOf (judging h b t) h (statusOf h) .reply) (drop 10 space) 10 (reply-ten (judging h b t) h (statusOf h)))
-        (reply-copies (judging h b t .verdict) (judging h b t) h (statusOf h) (status-fits h) r)
-    go false r = let none = keeps-silent h b t space k e r .0 in let z : _≡_ {A = ℕ} 0 1 = cc in absurd (omega arith)
-
--- ---- what a read does: nothing, or it clears the static bit, or releases
-either : {A : Type 0} (P : A → Type 0) (b : Bool) {x y : A} → P x → P y → P (cond b x y)
-either P true p q = p
-either P false p q = q
-
-abbrev Still : Deed → Type 0
-Still d = (d ≡ Nothing) ⊎ ((d ≡ ClearStatic) ⊎ (d ≡ Release))
-
-shown-still : (a : ℕ) → Still (shownBy a)
-unfolding shownBy
-shown-still a = either Still (eqb a 0xFA) (inr (inl refl)) (either Still (eqb a 0xFE) (inr (inr refl)) (inl refl))
-
-read-still : (ten : List ℕ) (h : Head) → fieldsOf ten .command ≡ 0 → Still (judgedOf ten (standingOf h) .deed)
-unfolding judgedOf deedOf commandOf
-read-still ten h c = go (judgedOf ten (standingOf h) .verdict)
-  where
-    go : (v : Verdict) → Still (deedOf v (commandOf (fieldsOf ten .command)) (judgedOf ten (standingOf h) .kind) (fieldsOf ten))
-    go Obeyed = rw c (shown-still (fieldsOf ten .parameter))
-    go Silent = inl refl
-    go (Refused f) = inl refl
-
-still-polls : (j : Judged) (h : Head) (t : ℕ) → Still (j .deed) → Polled h (toldOf j h t)
-unfolding toldOf storedBy measurementBy targetsBy restartsOf clearedOf releasedOf
-still-polls j h t (inl e) =
-    rw e (record { stored = refl; first = refl; valid1 = refl; second = refl; valid2 = refl; word = refl; m = refl; zero = refl; adopted = refl; incremental = refl; start = refl; keys = refl })
-still-polls j h t (inr (inl e)) =
-    rw e (record { stored = refl; first = refl; valid1 = refl; second = refl; valid2 = refl; word = refl; m = refl; zero = refl; adopted = refl; incremental = refl; start = refl; keys = refl })
-still-polls j h t (inr (inr e)) =
-    rw e (record { stored = refl; first = refl; valid1 = refl; second = refl; valid2 = refl; word = refl; m = refl; zero = refl; adopted = refl; incremental = refl; start = refl; keys = refl })
-
--- ---- what a write of a stored parameter does: nothing, or it stores
-abbrev Setting : Deed → ℕ → ℕ → Type 0
-Setting d i w = (d ≡ Nothing) ⊎ (d ≡ Store i w)
-
-write-sets : (ten : List ℕ) (h : Head) (r : ℕ) → r < 39 → fieldsOf ten .command ≡ 1 → fieldsOf ten .parameter ≡ address (rowOf r)
-    → Setting (judgedOf ten (standingOf h) .deed) r (fieldsOf ten .value)
-unfolding judgedOf deedOf doneBy commandOf
-write-sets ten h r lt c p = go (judgedOf ten (standingOf h) .verdict)
-  where
-    kind-is : kindOf (fieldsOf ten .parameter) ≡ Stored r
-    kind-is = ap kindOf p ∙ value-kind (address (rowOf r)) r (row-place r lt)
-
-    go : (v : Verdict) → Setting (deedOf v (commandOf (fieldsOf ten .command)) (kindOf (fieldsOf ten .parameter)) (fieldsOf ten)) r (fieldsOf ten .value)
-    go Obeyed = rw (c, kind-is) (inr refl)
-    go Silent = inl refl
-    go (Refused f) = inl refl
-
-setting-keeps : (j : Judged) (h : Head) (t : ℕ) {i w : ℕ} → Setting (j .deed) i w
-    → (toldOf j h t .measurement ≡ h .measurement) × (toldOf j h t .targets ≡ h .targets)
-unfolding toldOf measurementBy targetsBy restartsOf
-setting-keeps j h t (inl e) = rw e (refl, refl)
-setting-keeps j h t (inr e) = rw e (refl, refl)
-
--- ---- what no deed but a restart changes
-abbrev Stays : Deed → parts.Stored → Type 0
-Stays d s = (restartsOf d ≡ false) × (storedBy d s .number ≡ s .number) × (storedBy d s .baud ≡ s .baud)
-
-deed-stays : (d : Deed) (s : parts.Stored) → d ≢ Restart → Stays d s
-unfolding restartsOf storedBy
-deed-stays Nothing s n = (refl, refl, refl)
-deed-stays (Store i w) s n = (refl, refl, refl)
-deed-stays (Reset command) s n = (refl, refl, refl)
-deed-stays Restart s n = absurd (n refl)
-deed-stays Calibrate s n = (refl, refl, refl)
-deed-stays Forget s n = (refl, refl, refl)
-deed-stays (Unlock b) s n = (refl, refl, refl)
-deed-stays Freeze s n = (refl, refl, refl)
-deed-stays (Aim1 v w) s n = (refl, refl, refl)
-deed-stays (Aim2 v w) s n = (refl, refl, refl)
-deed-stays ClearStatic s n = (refl, refl, refl)
-deed-stays Release s n = (refl, refl, refl)
-
-told-stays : (j : Judged) (h : Head) (t : ℕ) → j .deed ≢ Restart
-    → (toldOf j h t .stored .number ≡ h .stored .number) × (toldOf j h t .stored .baud ≡ h .stored .baud)
-unfolding toldOf
-told-stays j h t n = let k = deed-stays (j .deed) (h .stored) n in rw (k .0) (k .1, k .2)
-
--- ---- a telegram that is sound, or not; one that is refused
-told-starts : (ten : List ℕ) (h : Head) (t : ℕ) → hitOf ten ≡ 0 → judgedOf ten (standingOf h) .deed ≢ Restart
-    → toldOf (judgedOf ten (standingOf h)) h t .monitor ≡ record { running = true; since = t }
-unfolding toldOf judgedOf startedOf
-told-starts ten h t s n = rw (deed-stays (judgedOf ten (standingOf h) .deed) (h .stored) n .0, s)
-
--- no deed looks at what is kept of the last damaged telegram, or at the count of them, and none touches either
-abbrev pub marked : Faults → ℕ → ℕ → Faults
-marked f x n = record { memory = f .memory; inputs = f .inputs; pending = f .pending; hit = x; damaged = n }
-
-cleared : (b : Bool) (f : Faults) (x n : ℕ) → cond b (withPending (marked f x n) 0) (marked f x n) ≡ marked (cond b (withPending f 0) f) x n
-cleared true f x n = refl
-cleared false f x n = refl
-
-pub deed-apart : (d : Deed) (last : ℕ) (f : Faults) (x n : ℕ) → faultsBy d last (marked f x n) ≡ marked (faultsBy d last f) x n
-unfolding faultsBy acknowledgedOf
-deed-apart Nothing last f x n = refl
-deed-apart (Store i w) last f x n = refl
-deed-apart (Reset r) last f x n = refl
-deed-apart Restart last f x n = refl
-deed-apart Calibrate last f x n = refl
-deed-apart Forget last f x n = refl
-deed-apart (Unlock b) last f x n = refl
-deed-apart Freeze last f x n = refl
-deed-apart (Aim1 v w) last f x n = cleared (bitSet w 5 && not (bitSet last 5)) f x n
-deed-apart (Aim2 v w) last f x n = cleared (bitSet w 5 && not (bitSet last 5)) f x n
-deed-apart ClearStatic last f x n = refl
-deed-apart Release last f x n = refl
-
-pub deed-spares : (d : Deed) (last : ℕ) (f : Faults) → let g = faultsBy d last f in (g .hit ≡ f .hit) × (g .damaged ≡ f .damaged)
-deed-spares d last f =
-    let e = deed-apart d last f (f .hit) (f .damaged) in (ap (λ (g : Faults). g .hit) e, ap (λ (g : Faults). g .damaged) e)
-
--- an error reply touches the input list alone
-complained-is : (v : Verdict) (f : Faults) → complainedOf v f ≡ withInputs f (complainedOf v f .inputs)
-unfolding complainedOf
-complained-is Obeyed f = refl
-complained-is Silent f = refl
-complained-is (Refused x) f = refl
-
--- so both are after a telegram what counting it leaves, but for a restart
-pub told-marks : (j : Judged) (h : Head) (t : ℕ) → let f = toldOf j h t .faults in let g = countedOf (j .hit) (h .faults) in
-    (f .hit ≡ cond (restartsOf (j .deed)) 0 (g .hit)) × (f .damaged ≡ cond (restartsOf (j .deed)) 0 (g .damaged))
-unfolding toldOf restartedOf restartedFaults
-told-marks j h t = go (restartsOf (j .deed))
-  where
-    go : (b : Bool) → let f = cond b (restartedOf (affectedOf j h t)) (affectedOf j h t) .faults in let g = countedOf (j .hit) (h .faults) in
-        (f .hit ≡ cond b 0 (g .hit)) × (f .damaged ≡ cond b 0 (g .damaged))
-    go true = (refl, refl)
-    go false =
-        let d = deed-spares (j .deed) (h .targets .word) (complainedOf (j .verdict) (countedOf (j .hit) (h .faults))) in
-        let c = complained-is (j .verdict) (countedOf (j .hit) (h .faults)) in
-        (d .0 ∙ ap (λ (f : Faults). f .hit) c, d .1 ∙ ap (λ (f : Faults). f .damaged) c)
-
-told-spares : (ten : List ℕ) (h : Head) (t : ℕ) → let j = judgedOf ten (standingOf h) in
-    hitOf ten ≡ 0 → j .deed ≢ Restart → (toldOf j h t .faults .hit ≡ h .faults .hit) × (toldOf j h t .faults .damaged ≡ 0)
-unfolding judgedOf countedOf
-told-spares ten h t s n =
+refused-keeps : (ten : List ℕ) (h : Head) (t : ℕ) (f : Fault) → let j = judgedOf ten (standingOf h) in
+    j .verdict ≡ Refused f → Complained h (toldOf j h t) (j .hit) (codeOf f)
+unfolding complainedOf emptyEar
+refused-keeps ten h t f v =
     let j = judgedOf ten (standingOf h) in
-    let stays = deed-stays (j .deed) (h .stored) n .0 in
-    let m = told-marks j h t in
-    (m .0 ∙ rw (stays, s), m .1 ∙ rw (stays, s))
-
--- a damaged telegram is not obeyed
-damaged-unheeded : (ten : List ℕ) (h : Head) → hitOf ten ≢ 0 → Unheeded (judgedOf ten (standingOf h) .verdict)
-unfolding judgedOf
-damaged-unheeded ten h s = go (verdictOf (hitOf ten) (fieldsOf ten) (standingOf h)) refl
-  where
-    go : (v : Verdict) → verdictOf (hitOf ten) (fieldsOf ten) (standingOf h) ≡ v → Unheeded v
-    go Obeyed e = absurd (s (obeyed-sound (hitOf ten) (fieldsOf ten) (standingOf h) e))
-    go Silent e = silent
-    go (Refused f) e = refused
-
--- what is kept and counted of a damaged one; and that counting leaves the input list
-pub counted-damaged : (f : Faults) (x : ℕ) → x ≢ 0
-    → let g = countedOf x f in
-    (g .hit ≡ x)
-    × (g .damaged ≡ cond (not (ltb (f .damaged) 2)) 0 (f .damaged + 1))
-    × (g .pending ≡ cond (not (ltb (f .damaged) 2)) 0x0080 (f .pending))
-    × (g .memory ≡ cond (not (ltb (f .damaged) 2)) (rememberedOf (f .memory) 0x0080) (f .memory))
-unfolding countedOf raisedOf
-counted-damaged f x n = rw (ne-eqb x 0 n) (go (ltb (f .damaged) 2))
-  where
-    go : (few : Bool)
-        → let k = withHit f x in
-        let g = cond few (withDamaged k (f .damaged + 1)) (raisedOf (withDamaged k 0) 0x0080) in
-        (g .hit ≡ x)
-        × (g .damaged ≡ cond (not few) 0 (f .damaged + 1))
-        × (g .pending ≡ cond (not few) 0x0080 (f .pending))
-        × (g .memory ≡ cond (not few) (rememberedOf (f .memory) 0x0080) (f .memory))
-    go true = (refl, refl, refl, refl)
-    go false = (refl, refl, refl, refl)
-
-counted-inputs : (x : ℕ) (f : Faults) → countedOf x f .inputs ≡ f .inputs
-unfolding countedOf raisedOf
-counted-inputs x f =
-    either (λ (g : Faults). g .inputs ≡ f .inputs) (eqb x 0) refl (either (λ (g : Faults). g .inputs ≡ f .inputs) (ltb (f .damaged) 2) refl refl)
-
--- the errors after a telegram that is not obeyed
-unheeded-faults : (ten : List ℕ) (h : Head) (t : ℕ) → let j = judgedOf ten (standingOf h) in
-    Unheeded (j .verdict) → toldOf j h t .faults ≡ complainedOf (j .verdict) (countedOf (j .hit) (h .faults))
-unheeded-faults ten h t u = ap (λ (x : Head). x .faults) (unheeded-only h ten t u)
-
-told-counts : (ten : List ℕ) (h : Head) (t : ℕ) → hitOf ten ≢ 0 → Damaged h (toldOf (judgedOf ten (standingOf h)) h t) (hitOf ten)
-unfolding judgedOf startedOf
-told-counts ten h t s =
-    let j = judgedOf ten (standingOf h) in
-    let e = unheeded-faults ten h t (damaged-unheeded ten h s) ∙ complained-is (j .verdict) (countedOf (hitOf ten) (h .faults)) in
-    let only = unheeded-only h ten t (damaged-unheeded ten h s) in
-    let d = counted-damaged (h .faults) (hitOf ten) s in
+    let only = unheeded-only h ten t (rw v refused) in
+    let e = unheeded-faults ten h t (rw v refused) ∙ complained-is (j .verdict) (countedOf (j .hit) (h .faults)) in
+    let part = drops (j .verdict) (fieldsOf ten .parameter) in
     record {
-      hit = ap (λ (f : Faults). f .hit) e ∙ d .0;
-      damaged = ap (λ (f : Faults). f .damaged) e ∙ d .1;
-      pending = ap (λ (f : Faults). f .pending) e ∙ d .2;
-      memory = ap (λ (f : Faults). f .memory) e ∙ d .3;
-      monitor = ap (λ (x : Head). x .monitor) only ∙ rw (ne-eqb (hitOf ten) 0 s);
-      stored = ap (λ (x : Head). x .stored) only;
+      inputs = told-complains ten h t f v;
+      memory = λ s. ap (λ (g : Faults). g .memory) e ∙ counted-sound (j .hit) (h .faults) s .0;
+      pending = λ s. ap (λ (g : Faults). g .pending) e ∙ counted-sound (j .hit) (h .faults) s .1;
+      values = ap (λ (x : Head). x .stored .values) only ∙ either (λ (s : parts.Stored). s .values ≡ h .stored .values) part refl refl;
+      number = ap (λ (x : Head). x .stored .number) only ∙ either (λ (s : parts.Stored). s .number ≡ h .stored .number) part refl refl;
+      baud = ap (λ (x : Head). x .stored .baud) only ∙ either (λ (s : parts.Stored). s .baud ≡ h .stored .baud) part refl refl;
+      unlocked = ap (λ (x : Head). x .stored .unlocked) only ∙ either (λ (s : parts.Stored). s .unlocked ≡ h .stored .unlocked) part refl refl;
       measurement = ap (λ (x : Head). x .measurement) only;
       targets = ap (λ (x : Head). x .targets) only;
+      gathered = ap (λ (x : Head). x .ear .count) only;
       keys = ap (λ (x : Head). x .keys) only;
     }
 
--- what a damaged telegram is judged
-damaged-verdict : (ten : List ℕ) (h : Head) → hitOf ten ≢ 0
-    → judgedOf ten (standingOf h) .verdict ≡ cond (mine (fieldsOf ten) h) (Refused CheckSum) Silent
-unfolding judgedOf verdictOf sumCheck standingOf _else_
-damaged-verdict ten h n =
-    rw (ne-eqb (hitOf ten) 0 n, casts-is (fieldsOf ten .command))
-    (elim (mine (fieldsOf ten) h) as (λ b. (cond b (Refused CheckSum) Silent) else rest ≡ cond b (Refused CheckSum) Silent) [ true ↦ refl | false ↦ refl ])
-  where
-    rest : Verdict
-    rest = nodeCheck (commandOf (fieldsOf ten .command)) (mineOf (fieldsOf ten) (standingOf h)) else lateOf (fieldsOf ten) (standingOf h)
-
-refuses : (h : Head) (b t : ℕ) (space : List ℕ) → Taken h space → gatheredOf (h .ear) b t .whole ≡ true
-    → hitOf (gatheredOf (h .ear) b t .ten) ≢ 0
-    → let own = mine (fieldsOf (gatheredOf (h .ear) b t .ten)) h in
+errs : (h : Head) (b t : ℕ) (space : List ℕ) → Taken h space → gatheredOf (h .ear) b t .whole ≡ true
+    → let ten = gatheredOf (h .ear) b t .ten in
     let x = fieldsOf (take 10 (product .onHead .space h b t space)) in
-    (product .onHead .byte h b t (length space) .heard ≡ heard.Replies (cond own 1 0))
-    × (own ≡ true → (x .parameter ≡ 0xFD) × (x .value ≡ 0x0080))
-    × (product .onHead .byte h b t (length space) .head .faults .inputs ≡ cond own (rememberedOf (h .faults .inputs) 0x0080) (h .faults .inputs))
-unfolding replyOf errorReply said silence fieldsOf bytesOf complainedOf
-refuses h b t space k e n = go (mine (fieldsOf ten) h) refl
+    product .onHead .byte h b t (length space) .heard ≡ heard.Replies 1 → x .parameter ≡ 0xFD → fieldsOf ten .parameter ≢ 0xFD
+    → Complained h (product .onHead .byte h b t (length space) .head) (hitOf ten) (x .value)
+unfolding judgedOf replyOf
+errs h b t space k e one fd other = go (judging h b t .verdict) refl
   where
     ten : List ℕ
     ten = gatheredOf (h .ear) b t .ten
 
-    j : Judged
-    j = judging h b t
+    none : replyOf (judging h b t) h (statusOf h) .replied ≡ false → ⊥
+    none r = let no = keeps-silent h b t space k e r .0 in let z : _≡_ {A = ℕ} 0 1 = cc in omega arith
 
-    inputs : (v : Verdict) → j .verdict ≡ v
-        → product .onHead .byte h b t (length space) .head .faults .inputs ≡ complainedOf v (countedOf (j .hit) (h .faults)) .inputs
-    inputs v p =
-        ap (λ (x : Head). x .faults .inputs) (obeys h b t space k e)
-        ∙ ap (λ (f : Faults). f .inputs) (unheeded-faults ten h t (damaged-unheeded ten h n)) ∙ rw p
+    own : judging h b t .verdict ≡ Obeyed → (r : Bool) → replyOf (judging h b t) h (statusOf h) .replied ≡ r → ⊥
+    own v true r =
+        let is : fieldsOf (take 10 (product .onHead .space h b t space)) .parameter ≡ fieldsOf ten .parameter =
+        rw (answers h b t space k e r .1, take-at (replyOf (judging h b t) h (statusOf h) .reply) (drop 10 space) 10 (reply-ten (judging h b t) h (statusOf h)))
+        (reply-own (judging h b t .verdict) (judging h b t) h (statusOf h) v r) in
+        other (sym is ∙ fd)
+    own v false r = none r
 
-    judged : (own : Bool) → mine (fieldsOf ten) h ≡ own → j .verdict ≡ cond own (Refused CheckSum) Silent
-    judged own p = rw p at (damaged-verdict ten h n)
+    go : (v : Verdict) → judging h b t .verdict ≡ v
+        → Complained h (product .onHead .byte h b t (length space) .head) (hitOf ten) (fieldsOf (take 10 (product .onHead .space h b t space)) .value)
+    go Obeyed v = absurd (own v (replyOf (judging h b t) h (statusOf h) .replied) refl)
+    go Silent v = absurd (none (silent-none _ h (statusOf h) v))
+    go (Refused f) v = rw (obeys h b t space k e, refused-told h b t space k e f v .2) (refused-keeps ten h t f v)
 
-    go : (own : Bool) → mine (fieldsOf ten) h ≡ own
-        → let x = fieldsOf (take 10 (product .onHead .space h b t space)) in
-        (product .onHead .byte h b t (length space) .heard ≡ heard.Replies (cond (mine (fieldsOf ten) h) 1 0))
-        × (mine (fieldsOf ten) h ≡ true → (x .parameter ≡ 0xFD) × (x .value ≡ 0x0080))
-        × (product .onHead .byte h b t (length space) .head .faults .inputs
-        ≡ cond (mine (fieldsOf ten) h) (rememberedOf (h .faults .inputs) 0x0080) (h .faults .inputs))
-    go true p =
-        let v : j .verdict ≡ Refused CheckSum = judged true p in
-        let a = answers h b t space k e (rw v) in
-        let r : take 10 (product .onHead .space h b t space) ≡ replyOf j h (statusOf h) .reply =
-        rw (a .1) (take-at (replyOf j h (statusOf h) .reply) (drop 10 space) 10 (reply-ten j h (statusOf h))) in
-        rw (p, r, v) (a .0, λ _. (refl, refl), inputs (Refused CheckSum) v ∙ rw (counted-inputs (j .hit) (h .faults)))
-    go false p =
-        let v : j .verdict ≡ Silent = judged false p in
-        rw p (keeps-silent h b t space k e (rw v) .0, λ q. absurd (true≢false (sym q)), inputs Silent v ∙ counted-inputs (j .hit) (h .faults))
+-- ---- a write that is accepted is answered
+is-obeyed : (v : Verdict) → isObeyed v ≡ true → v ≡ Obeyed
+is-obeyed Obeyed e = refl
+is-obeyed Silent e = absurd (true≢false (sym e))
+is-obeyed (Refused f) e = absurd (true≢false (sym e))
 
-told-complains : (ten : List ℕ) (h : Head) (t : ℕ) (f : Fault) → let j = judgedOf ten (standingOf h) in
-    j .verdict ≡ Refused f → toldOf j h t .faults .inputs ≡ rememberedOf (h .faults .inputs) (codeOf f)
-unfolding complainedOf
-told-complains ten h t f e =
-    let j = judgedOf ten (standingOf h) in
-    ap (λ (g : Faults). g .inputs) (unheeded-faults ten h t (rw e refused)) ∙ rw (e, counted-inputs (j .hit) (h .faults))
+write-says : (v : Verdict) (j : Judged) (h : Head) (word : ℕ) → v ≡ Obeyed → j .command ≡ Write → eqb (j .telegram .parameter) 0xD2 ≡ false
+    → replyBy v j h word ≡ said (j .telegram) (j .telegram .parameter) word (answerOf (j .telegram .parameter) h (j .telegram .value))
+unfolding valueReply
+write-says Obeyed j h word e c p = rw (c, p)
+write-says Silent j h word e c p = let z : _≡_ {A = ℕ} 0 1 = cc in absurd (omega arith)
+write-says (Refused f) j h word e c p = let z : _≡_ {A = ℕ} 0 1 = cc in absurd (omega arith)
+
+said-shows : (t : Telegram) (parameter word value : ℕ) → let s = said t parameter word value in
+    (s .replied ≡ true) × (fieldsOf (s .reply) .parameter ≡ parameter) × (value < 4294967296 → fieldsOf (s .reply) .value ≡ value)
+unfolding said fieldsOf bytesOf
+said-shows t parameter word value = (refl, refl, λ small. word-bytes value small)
+
+answer-own : (a : ℕ) (h : Head) (value : ℕ) → a ≢ 0xFF → answerOf a h value ≡ value
+unfolding answerOf
+answer-own a h value n = rw (ne-eqb a 0xFF n)
+
+written : (h : Head) (b t : ℕ) (space : List ℕ) → Taken h space → gatheredOf (h .ear) b t .whole ≡ true
+    → let ten = gatheredOf (h .ear) b t .ten in
+    let x = fieldsOf (take 10 (product .onHead .space h b t space)) in
+    accepted (h .stored .number) (locked h) ten ≡ true → fieldsOf ten .command ≡ 1 → fieldsOf ten .parameter ≢ 0xD2
+    → (product .onHead .byte h b t (length space) .heard ≡ heard.Replies 1)
+    × (x .parameter ≡ fieldsOf ten .parameter)
+    × (fieldsOf ten .parameter ≢ 0xFF → fieldsOf ten .value < 4294967296 → x .value ≡ fieldsOf ten .value)
+unfolding judgedOf replyOf standingOf lockedOf commandOf
+written h b t space k e ok c p =
+    let ten = gatheredOf (h .ear) b t .ten in
+    let j = judging h b t in
+    let v = is-obeyed (j .verdict) (and-eq-true-iff (isObeyed (j .verdict)) _ .0 (accepted-is ten (standingOf h) ∙ ok) .0) in
+    let is : replyOf j h (statusOf h) ≡ said (j .telegram) (fieldsOf ten .parameter) (statusOf h) (answerOf (fieldsOf ten .parameter) h (fieldsOf ten .value)) =
+    write-says (j .verdict) j h (statusOf h) v (rw c) (ne-eqb _ 0xD2 p) in
+    let s = said-shows (j .telegram) (fieldsOf ten .parameter) (statusOf h) (answerOf (fieldsOf ten .parameter) h (fieldsOf ten .value)) in
+    let a = answers h b t space k e (ap (λ (x : Said). x .replied) is ∙ s .0) in
+    let r : take 10 (product .onHead .space h b t space) ≡ said (j .telegram) (fieldsOf ten .parameter) (statusOf h) (answerOf (fieldsOf ten .parameter) h (fieldsOf ten .value)) .reply =
+    rw (a .1) (take-at (replyOf j h (statusOf h) .reply) (drop 10 space) 10 (reply-ten j h (statusOf h)) ∙ ap (λ (x : Said). x .reply) is) in
+    (a .0, rw r (s .1), λ n small. rw r (s .2 (rw (answer-own (fieldsOf ten .parameter) h (fieldsOf ten .value) n) small) ∙ answer-own (fieldsOf ten .parameter) h (fieldsOf ten .value) n))
+
+-- ---- a telegram that is passed over
+pub passed-keeps : (h : Head) (t : ℕ) → Passed h (passedOf h t) t (h .stored .offer)
+unfolding passedOf countedOf startedOf emptyEar
+passed-keeps h t =
+    record { values = refl; number = refl; baud = refl; unlocked = refl; offer = refl; memory = refl; inputs = refl; pending = refl; hit = refl; damaged = refl; measurement = refl; targets = refl; monitor = refl; gathered = refl; keys = refl }
+
+passes : (h : Head) (b t : ℕ) (space : List ℕ) → Taken h space → gatheredOf (h .ear) b t .whole ≡ true
+    → let ten = gatheredOf (h .ear) b t .ten in
+    hitOf ten ≡ 0 → fieldsOf ten .command ≢ 2 → fieldsOf ten .node ≢ h .stored .number
+    → (product .onHead .byte h b t (length space) .heard ≡ heard.Replies 0)
+    × (product .onHead .space h b t space ≡ space)
+    × Passed h (product .onHead .byte h b t (length space) .head) t (h .stored .offer)
+unfolding tellOf passesOf fieldsOf
+passes h b t space k e s c n =
+    let ten = gatheredOf (h .ear) b t .ten in
+    let told = passes-tell ten h t (rw (s, ne-eqb _ 2 c, ne-eqb _ _ n)) in
+    let still = keeps-silent h b t space k e (ap (λ (x : Stepped). x .replied) told) in
+    (still .0, still .1, rw (obeys h b t space k e ∙ ap (λ (x : Stepped). x .head) told) (passed-keeps h t))
+
+-- ---- a broadcast that is not accepted
+pub silent-is : (h : Head) (ten : List ℕ) (at : ℕ) → let j = judgedOf ten (standingOf h) in hitOf ten ≡ 0 → j .verdict ≡ Silent → toldOf j h at ≡ passedOf h at
+unfolding passedOf complainedOf judgedOf
+silent-is h ten at s v = unheeded-only h ten at (rw v silent) ∙ rw (v, s)
+
+uncast : (h : Head) (b t : ℕ) (space : List ℕ) → Taken h space → gatheredOf (h .ear) b t .whole ≡ true
+    → let ten = gatheredOf (h .ear) b t .ten in
+    hitOf ten ≡ 0 → fieldsOf ten .command ≡ 2 → accepted (h .stored .number) (locked h) ten ≡ false
+    → (product .onHead .byte h b t (length space) .heard ≡ heard.Replies 0)
+    × (product .onHead .space h b t space ≡ space)
+    × Passed h (product .onHead .byte h b t (length space) .head) t (h .stored .offer)
+unfolding judgedOf standingOf lockedOf commandOf
+uncast h b t space k e s c unmet = go (judging h b t .verdict) refl
+  where
+    ten : List ℕ
+    ten = gatheredOf (h .ear) b t .ten
+
+    go : (v : Verdict) → judging h b t .verdict ≡ v
+        → (product .onHead .byte h b t (length space) .heard ≡ heard.Replies 0)
+        × (product .onHead .space h b t space ≡ space)
+        × Passed h (product .onHead .byte h b t (length space) .head) t (h .stored .offer)
+    go Obeyed v = absurd (true≢false (rw (v, c) at (accepted-is ten (standingOf h) ∙ unmet)))
+    go Silent v =
+        let q = keeps-silent h b t space k e (silent-none _ h (statusOf h) v) in
+        (q .0, q .1, rw (obeys h b t space k e ∙ silent-is h ten t s v) (passed-keeps h t))
+    go (Refused f) v = absurd (cast-never-refused (hitOf ten) (fieldsOf ten) (standingOf h) f (rw c) v)
 
 pub every : Every product
 every =
@@ -371,5 +230,9 @@ every =
       counts = λ h b t space k e s. rw (obeys h b t space k e) (told-counts (gatheredOf (h .ear) b t .ten) h t s);
       refuses = refuses;
       complains = λ h b t space k e f v. rw (obeys h b t space k e) (told-complains (gatheredOf (h .ear) b t .ten) h t f v);
+      errs = errs;
+      passes = passes;
+      uncast = uncast;
+      written = written;
       in-force = λ h b t space k e n. rw (obeys h b t space k e) (told-stays _ h t n);
     }

@@ -11,21 +11,23 @@ use lib.Dec.{leb, ltb, eqb}
 use lib.ListN.{length, set, getD}
 use lib.Seq.{getD-set-same, getD-set-other}
 use Rattle.state.specs.declared.parts.Head.{Head}
+use Rattle.state.specs.Wellformed.{wellformedOf}
 use Rattle.effects.specs.Restart.{freshOf}
-use Rattle.head.specs.declared.refusal.Refusal.the-variants.{Node, Full, NoHead}
+use Rattle.head.specs.declared.refusal.Refusal.the-variants.{Node, Full}
 use Rattle.head.specs.Hear.{stepOf}
-use Rattle.head.specs.Moves.{tickedOf}
+use Rattle.head.specs.Moves.{tickedOf, keyedOf}
+use Rattle.head.specs.Calls as head
 use Rattle.head.specs.Calls.{guarded, factoryOf, nodeFits}
 use Rattle.head.specs.Outcome.{called, own, next}
 use Rattle.head.proofs.Nodes.{node-same}
-use Rattle.head.proofs.Asked.{called-head, called-fits}
+use Rattle.head.proofs.Asked.{called-head, called-fits, lent-keys-head}
 use Rattle.line.specs.declared.calls.Line.{Line}
 use Rattle.line.specs.declared.calls.Called.{Called}
 use Rattle.line.specs.declared.calls.Fed.{Fed}
-use Rattle.line.specs.Calls.{fitsOf, headAt, doneWith, refusedWith, placedOf, grownBy, growOf, byteOf, tickOf, putBack, namedOf}
+use Rattle.line.specs.Calls.{fitsOf, headAt, doneWith, refusedWith, placedOf, grownBy, growOf, byteOf, tickOf, keysOf}
 use Rattle.line.proofs.Laws.{fits-small}
-use Rattle.line.proofs.Theorems.{Kept, grow-keeps, byte-keeps, tick-keeps, named-keeps, named-one, tick-alone, byte-alone, well-at}
-use Rattle.demands.specs.Calls.{Ask, Call, newHead, byte, tick, named}
+use Rattle.line.proofs.Theorems.{Kept, grow-keeps, byte-keeps, tick-keeps, named-keeps, keys-keeps, named-one, keys-one, namedLine, named-line, keys-line, tick-alone, byte-alone, well-at}
+use Rattle.demands.specs.Calls.{Ask, Call, newHead, byte, tick, named, keys}
 use Rattle.demands.specs.Past.{mayAdd, grown, room, makes, names}
 use Rattle.demands.specs.Run.{product, askOf, aloneOf, after}
 use Rattle.demands.proofs.Named.{ask-is}
@@ -39,6 +41,7 @@ after-keeps (newHead node) l = grow-keeps l node
 after-keeps (byte b t s) l = byte-keeps l b t _
 after-keeps (tick t) l = tick-keeps l t
 after-keeps (named j a) l = ask-keeps a l j
+after-keeps (keys j s n) l = keys-keeps l j s n
 
 -- ---- how many heads
 -- a new head, by the two tests
@@ -81,11 +84,16 @@ after-count (newHead node) l f = grow-count l node f
 after-count (byte b t s) l f = byte-count l b t _
 after-count (tick t) l f = tick-count l t
 after-count (named j a) l f = ask-count a l j
+after-count (keys j s n) l f = keys-one l j s n .0
 
 -- ---- which head
 -- what a call that names a head makes of it: nothing where one of its own tests fails
 unfoldable pub askedOf : Ask → Head → Head
 askedOf a h = guarded (λ why. h) (own (aloneOf a)) (next (aloneOf a) h)
+
+-- what a key state makes of it: nothing where it is above 7, or under ten bytes are lent
+unfoldable pub keyedBy : ℕ → ℕ → Head → Head
+keyedBy s n h = cond (leb s 7 && room n) (keyedOf h s .head) h
 
 -- what a call makes of the head h at place k of n
 unfoldable pub headBy : Call → ℕ → ℕ → Head → Head
@@ -93,6 +101,7 @@ headBy (newHead node) n k h = cond (makes n node k) (freshOf node) h
 headBy (byte b t s) n k h = cond (room s) (stepOf h b t .head) h
 headBy (tick t) n k h = tickedOf h t
 headBy (named j a) n k h = cond (names n j k) (askedOf a h) h
+headBy (keys j s r) n k h = cond (names n j k) (keyedBy s r h) h
 
 -- a head changed in its place, seen at each place
 set-seen : (l : Line) (j k : ℕ) (g : Head → Head) → j < length (l .heads)
@@ -128,24 +137,32 @@ module _ (l : Line) (f : fitsOf l ≡ true) (e : length (l .heads) ≡ 8) where
       go true p = byte-alone l f e k lt b t s (leb-true 10 s p)
       go false p = byte-short l b t s k (leb-false 10 s p)
 
-  ask-at : (a : Ask) (j k : ℕ) → headAt (askOf a l j .line) k ≡ cond (names (l .count) j k) (askedOf a (headAt l k)) (headAt l k)
-  unfolding askedOf namedOf placedOf
-  ask-at a j k = rw (ask-is a l j, f) (go (ltb j (l .count)) refl)
+  -- a call that names head j, and makes g of it alone; of a head that is well-formed g makes what m does
+  named-at : (j k : ℕ) (g m : Head → Head) → ((h : Head) → wellformedOf h ≡ true → g h ≡ m h)
+      → headAt (namedLine l j (g (headAt l j))) k ≡ cond (names (l .count) j k) (m (headAt l k)) (headAt l k)
+  unfolding placedOf
+  named-at j k g m same = rw f (go (ltb j (l .count)) refl)
     where
-      g : Head → Head
-      g h = called (aloneOf a) h .head
-
       go : (b : Bool) → ltb j (l .count) ≡ b
-          → headAt (cond b (putBack l j (called (aloneOf a) (headAt l j))) (refusedWith l NoHead) .line) k
-          ≡ cond (b && eqb k j) (guarded (λ why. headAt l k) (own (aloneOf a)) (next (aloneOf a) (headAt l k))) (headAt l k)
+          → headAt (cond b (placedOf l j (g (headAt l j))) l) k ≡ cond (b && eqb k j) (m (headAt l k)) (headAt l k)
       go false p = refl
       go true p = set-seen l j k g (there j (ltb-true _ _ p)) ∙ at-k (eqb k j) refl
         where
-          at-k : (c : Bool) → eqb k j ≡ c
-              → cond c (g (headAt l k)) (headAt l k)
-              ≡ cond c (guarded (λ why. headAt l k) (own (aloneOf a)) (next (aloneOf a) (headAt l k))) (headAt l k)
-          at-k true e = let q : k < l .count = rw (eqb-true k j e) (ltb-true _ _ p) in called-head (aloneOf a) (headAt l k) (well-at l f k q)
+          at-k : (c : Bool) → eqb k j ≡ c → cond c (g (headAt l k)) (headAt l k) ≡ cond c (m (headAt l k)) (headAt l k)
+          at-k true e = let q : k < l .count = rw (eqb-true k j e) (ltb-true _ _ p) in same (headAt l k) (well-at l f k q)
           at-k false e = refl
+
+  ask-at : (a : Ask) (j k : ℕ) → headAt (askOf a l j .line) k ≡ cond (names (l .count) j k) (askedOf a (headAt l k)) (headAt l k)
+  unfolding askedOf
+  ask-at a j k =
+      rw (ask-is a l j, named-line l j (called (aloneOf a) (headAt l j)))
+      (named-at j k (λ h. called (aloneOf a) h .head) (λ h. guarded (λ why. h) (own (aloneOf a)) (next (aloneOf a) h)) (called-head (aloneOf a)))
+
+  keys-at : (j k s n : ℕ) → headAt (keysOf l j s n .line) k ≡ cond (names (l .count) j k) (keyedBy s n (headAt l k)) (headAt l k)
+  unfolding keyedBy
+  keys-at j k s n =
+      rw (keys-line l j s n)
+      (named-at j k (λ h. head.keysOf h s n .head) (λ h. cond (leb s 7 && room n) (keyedOf h s .head) h) (λ h. lent-keys-head h s n))
 
   -- a byte and a tick reach the heads that there are
   pub after-at : (c : Call) (k : ℕ) → k < grown c (l .count) → headAt (after (product .onLine) c l) k ≡ headBy c (l .count) k (headAt l k)
@@ -154,3 +171,4 @@ module _ (l : Line) (f : fitsOf l ≡ true) (e : length (l .heads) ≡ 8) where
   after-at (byte b t s) k lt = byte-at b t s k lt
   after-at (tick t) k lt = tick-alone l f e k lt t
   after-at (named j a) k lt = ask-at a j k
+  after-at (keys j s n) k lt = keys-at j k s n

@@ -1,8 +1,8 @@
 -- What a head keeps of the last damaged telegram is what looking back over the calls finds: by induction over the calls, each call seen at one head.
 -- Assumes nothing.
 use Prim.Native.Nat.{ℕ, _<_, _≤_}
-use mathlib.Core.Path.{_≡_, refl, _∙_, ap}
-use mathlib.Core.Bool.{Bool, true, false, cond, _||_}
+use mathlib.Core.Path.{_≡_, refl, sym, _∙_, ap}
+use mathlib.Core.Bool.{Bool, true, false, cond, _&&_, _||_}
 use mathlib.Core.List.{List}
 use mathlib.Core.Option.{none, some}
 use borrow.Author.Tests.{ltb-true, ltb-false, eqb-false, le-ltb}
@@ -18,26 +18,27 @@ use Rattle.state.specs.declared.parts.Head.{Head}
 use Rattle.state.specs.declared.parts.Faults.{Faults}
 use Rattle.state.specs.Wellformed.{inReachOf}
 use Rattle.effects.specs.Faults.{countedOf, restartedFaults}
-use Rattle.effects.specs.Restart.{restartedOf, freshOf}
+use Rattle.effects.specs.Restart.{restartedOf, adoptedOf, freshOf}
 use Rattle.head.specs.declared.hear.Stepped.{Stepped}
 use Rattle.head.specs.Hear.{standingOf, tellOf, stepOf}
+use Rattle.head.specs.Moves.{adoptsOf, keyedOf}
 use Rattle.head.specs.Calls as head
 use Rattle.head.specs.Outcome as alone
 use Rattle.head.specs.declared.refusal.Refusal.the-variants.{NoHead}
 use Rattle.head.specs.declared.calls.Hit.the-variants.{Bits, Refused}
 use Rattle.line.specs.Calls.{lastHitOf}
 use Rattle.line.proofs.Theorems.{well-at}
-use Rattle.demands.specs.Calls.{Ask, measure, keys, power, Call, newHead, byte, tick, named, Calls, _▸_}
-use Rattle.demands.specs.Past.{Entry, grown, room, gather, making, nothing, locked, telling, hearing, asked, makes, names, change, look, count, entry}
+use Rattle.demands.specs.Calls.{Ask, measure, power, Call, newHead, byte, tick, named, keys, Calls, _▸_}
+use Rattle.demands.specs.Past.{Entry, grown, room, gather, making, nothing, locked, telling, hearing, asked, adopts, adopting, pressing, pressed, makes, names, change, look, count, entry}
 use Rattle.demands.specs.Run.{run, headIn, product}
 use Rattle.demands.specs.Hits.{Shown, damage, hits, lastHit, Hits, AllSeen, cases}
 use Rattle.demands.proofs.Computing.{computing}
 use Rattle.demands.proofs.Telegram.{told-restarts}
 use Rattle.demands.proofs.Ear.{ear-alone, ear-whole}
-use Rattle.demands.proofs.Heads.{askedOf, headBy}
-use Rattle.demands.proofs.Sim.{Is, sim, fits, number-is, locked-is, seen, of-heads}
+use Rattle.demands.proofs.Heads.{askedOf, keyedBy, headBy}
+use Rattle.demands.proofs.Sim.{Is, sim, fits, number-is, locked-is, adopts-is, seen, of-heads}
 use Rattle.demands.proofs.Alone.{ticked, measured, keyed}
-use Rattle.demands.proofs.Every.{told-marks, counted-damaged}
+use Rattle.demands.proofs.Telling.{told-marks, counted-damaged}
 use Rattle.demands.proofs.Lines.{shows, line-shows}
 
 abbrev kept : Head → ℕ
@@ -51,6 +52,15 @@ counted-hit x f = go (eqb x 0) refl
     go : (sound : Bool) → eqb x 0 ≡ sound → countedOf x f .hit ≡ look (cond sound none (some x)) (f .hit)
     go true e = rw e
     go false e = counted-damaged f x (eqb-false x 0 e) .0
+
+-- what a key state leaves, by its two ways
+adopted-kept : (h : Head) (s : ℕ) → adoptsOf h s ≡ true → kept (keyedOf h s .head) ≡ 0
+unfolding keyedOf adoptedOf restartedOf restartedFaults
+adopted-kept h s e = rw e
+
+up-kept : (h : Head) (s : ℕ) → adoptsOf h s ≡ false → kept (keyedOf h s .head) ≡ kept h
+unfolding keyedOf
+up-kept h s e = rw e (keyed h s .hit)
 
 -- ---- one call, at head k of n heads
 module _ (h : Head) (e : Entry) (A : Is h e) where
@@ -78,8 +88,18 @@ module _ (h : Head) (e : Entry) (A : Is h e) where
   ask-kept : (a : Ask) → kept (askedOf a h) ≡ cond (asked a e .restarts) 0 (kept h)
   unfolding askedOf alone.own alone.next asked restartedOf restartedFaults
   ask-kept (measure m) = either (λ (x : Head). kept x ≡ kept h) (inReachOf m) (λ _. ap (λ (f : Faults). f .hit) (measured h m .faults)) refl
-  ask-kept (keys s) = either (λ (x : Head). kept x ≡ kept h) (leb s 7) (λ _. keyed h s .hit) refl
   ask-kept power = refl
+
+  -- a key state leaves it, but for the restart of an adoption
+  keys-kept : (s n : ℕ) → kept (keyedBy s n h) ≡ cond (pressed s n e .restarts) 0 (kept h)
+  unfolding keyedBy pressed
+  keys-kept s n = go (leb s 7 && room n) (adopts s e) (sym (adopts-is h e A s))
+    where
+      go : (x y : Bool) → y ≡ adoptsOf h s
+          → kept (cond x (keyedOf h s .head) h) ≡ cond (cond x (cond y (adopting (e .offer)) (pressing s)) nothing .restarts) 0 (kept h)
+      go true true p = adopted-kept h s (sym p)
+      go true false p = up-kept h s (sym p)
+      go false y p = refl
 
   step-kept : (c : Call) (n k : ℕ) → kept (headBy c n k h) ≡ cond (change c n k e .restarts) 0 (look (hits c e) (kept h))
   unfolding headBy change hits look freshOf restartedOf restartedFaults
@@ -92,6 +112,8 @@ module _ (h : Head) (e : Entry) (A : Is h e) where
   step-kept (tick t) n k = ticked h t .hit
   step-kept (named j a) n k =
       elim (names n j k) as (λ x. kept (cond x (askedOf a h) h) ≡ cond (cond x (asked a e) nothing .restarts) 0 (kept h)) [ true ↦ ask-kept a | false ↦ refl ]
+  step-kept (keys j s r) n k =
+      elim (names n j k) as (λ x. kept (cond x (keyedBy s r h) h) ≡ cond (cond x (pressed s r e) nothing .restarts) 0 (kept h)) [ true ↦ keys-kept s r | false ↦ refl ]
 
 -- ---- for every list of calls
 kept-old : (cs : Calls) (c : Call) (k : ℕ) → k < grown c (count cs) → k < count cs → kept (headIn cs k) ≡ lastHit cs k
@@ -142,4 +164,4 @@ hits-kept = record { on-line = shown-on; alone = shown; no-head = none-there }
 
 pub all-seen : AllSeen product cases
 unfolding computing cases
-all-seen = (refl, refl, (refl, refl, (refl, refl, (refl, refl, (refl, refl, (refl, refl, (refl, refl, (refl, refl, (refl, refl, (refl, refl, (refl, refl, (refl, refl, tt))))))))))))
+all-seen = (refl, refl, (refl, refl, (refl, refl, (refl, refl, (refl, refl, (refl, refl, (refl, refl, (refl, refl, (refl, refl, (refl, refl, (refl, refl, (refl, refl, (refl, refl, tt)))))))))))))

@@ -12,15 +12,19 @@ pub mod Sim
 pub mod Alone
 pub mod Lines
 pub mod Answers
+pub mod Telling
 pub mod Every
 pub mod Bits
 pub mod Demand2
 pub mod Range
 pub mod One
+pub mod Apart
 pub mod Whole
 pub mod Back
 pub mod Hits
+pub mod AutoId
 pub mod Unseen
+pub mod Offering
 pub mod Proved
 pub mod Ordered
 pub mod Proposed
@@ -28,5 +32,6 @@ pub mod Lived
 pub mod Echo
 pub mod Wrongs
 pub mod WrongHits
+pub mod WrongOffers
 pub mod Real
 pub mod Outcomes

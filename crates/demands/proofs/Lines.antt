@@ -22,9 +22,9 @@ use Rattle.head.specs.Calls.{factoryOf, nodeFits, madeOf}
 use Rattle.head.specs.Outcome.{tick, called}
 use Rattle.line.specs.declared.calls.Line.{Line}
 use Rattle.line.specs.Round.{allFit, saidBy, repliesOf}
-use Rattle.line.specs.Calls.{headAt, repliesAt, growOf, byteOf, byteSpaceOf, tickOf, lastHitOf}
+use Rattle.line.specs.Calls.{headAt, repliesAt, growOf, byteOf, byteSpaceOf, tickOf, keysOf, keysSpaceOf, lastHitOf}
 use Rattle.line.proofs.Laws.{one-replies, not-one, fits-small, fits-heads}
-use Rattle.line.proofs.Theorems.{byte-alone, byte-counts, byte-lays, tick-alone, named-there, named-one, well-at}
+use Rattle.line.proofs.Theorems.{byte-alone, byte-counts, byte-lays, tick-alone, named-there, named-one, keys-there, keys-lays, keys-one, well-at}
 use Rattle.demands.specs.Calls.{Ask}
 use Rattle.demands.specs.Run.{product, askOf, aloneOf}
 use Rattle.demands.specs.Lines.{Fits, heardAlone, numberIn, sum, allReplies, Only, ToOne, Grown}
@@ -130,12 +130,22 @@ module _ (l : Line) (f : Fits l) where
   line-ticked t = (rw (f .fits), rw (f .fits))
 
   -- a call that names a head
-  pub line-asks : (i : ℕ) (a : Ask) → i < l .count → ToOne l i (askOf a l i) (called (aloneOf a) (headAt l i))
+  pub line-asks : (i : ℕ) (a : Ask) → i < l .count → let alone = called (aloneOf a) (headAt l i) in
+      ToOne l i (askOf a l i .line) (alone .head) × (askOf a l i .answer ≡ alone .answer)
   line-asks i a p =
       let c = called (aloneOf a) (headAt l i) in
       let t = named-there l (f .fits) (f .places) i p c in
       let o = named-one l i c in
-      rw (ask-is a l i) record { answer = t .0; there = t .1; others = o .1; count = o .0 }
+      rw (ask-is a l i) (record { there = t .1; others = o .1; count = o .0 }, t .0)
+
+  pub line-presses : (i s : ℕ) (space : List ℕ) → i < l .count → let alone = head.keysOf (headAt l i) s (length space) in
+      ToOne l i (keysOf l i s (length space) .line) (alone .head)
+      × (keysOf l i s (length space) .heard ≡ alone .heard)
+      × (keysSpaceOf l i s space ≡ head.keysSpaceOf (headAt l i) s space)
+  line-presses i s space p =
+      let t = keys-there l (f .fits) (f .places) i p s (length space) in
+      let o = keys-one l i s (length space) in
+      (record { there = t .1; others = o .1; count = o .0 }, t .0, keys-lays l (f .fits) (f .places) i p s space)
 
   pub line-shows : (i : ℕ) → i < l .count → lastHitOf l i ≡ head.lastHitOf (headAt l i)
   unfolding lastHitOf

@@ -4,12 +4,11 @@ use Prim.Native.Nat.{ℕ}
 use mathlib.Core.Path.{_≡_, refl}
 use Rattle.head.specs.Outcome.{called}
 use Rattle.line.specs.declared.calls.Line.{Line}
-use Rattle.line.specs.Calls.{headAt, namedOf, measureOf, keysOf, powerOf}
-use Rattle.demands.specs.Calls.{Ask, measure, keys, power}
+use Rattle.line.specs.Calls.{headAt, namedOf, measureOf, powerOf}
+use Rattle.demands.specs.Calls.{Ask, measure, power}
 use Rattle.demands.specs.Run.{askOf, aloneOf}
 
 pub ask-is : (a : Ask) (l : Line) (j : ℕ) → askOf a l j ≡ namedOf l j (called (aloneOf a) (headAt l j))
-unfolding askOf called measureOf keysOf powerOf
+unfolding askOf called measureOf powerOf
 ask-is (measure m) l j = refl
-ask-is (keys s) l j = refl
 ask-is power l j = refl

@@ -19,7 +19,7 @@ use Rattle.order_form.specs.Held.{noRow}
 use Rattle.order_form.specs.Check.{answerOf}
 use Rattle.order_form.proofs.Demands.{demanded}
 use Rattle.order_form.proofs.Only.{neither}
-use Rattle.demands.specs.Calls.{Call, newHead, byte, tick, named, Calls, start, _▸_}
+use Rattle.demands.specs.Calls.{Call, newHead, byte, tick, named, keys, Calls, start, _▸_}
 use Rattle.demands.specs.Past.{Ear, Entry, Change, nothing, making, delivered, mayAdd, grown, change, look, next, account, count, entry, value, inForce}
 use Rattle.demands.specs.Run.{System, product, machineOf, runs}
 use Rattle.demands.specs.Demand1.{refusedAs, Demand1}
@@ -65,6 +65,7 @@ no-more cs (newHead node) q = go (mayAdd (count cs) node) (eqb (count cs) (count
 no-more cs (byte b t s) q = refl
 no-more cs (tick t) q = refl
 no-more cs (named j a) q = refl
+no-more cs (keys j s n) q = refl
 
 -- the calls after those that numbered the heads
 record Stays (cs ds : Calls) : Type 0 where

@@ -10,7 +10,7 @@ use native.Mathlib.Omega.{arith}
 use borrow.Author.Tests.{eqb-false}
 use lib.Dec.{eqb}
 use Rattle.line.proofs.Laws.{fits-small}
-use Rattle.demands.specs.Calls.{Call, newHead, byte, tick, named, power, Calls, start, _▸_, Bytes}
+use Rattle.demands.specs.Calls.{Call, newHead, byte, tick, named, keys, power, Calls, start, _▸_, Bytes}
 use Rattle.demands.specs.Past.{nothing, making, mayAdd, grown, cutting, asked, names, change, look, next, account, count, value, inForce}
 use Rattle.demands.specs.Run.{built, run, headIn}
 use Rattle.demands.specs.Demand3.{touch, Last, here, earlier, ReadsBack, Demand3}
@@ -45,6 +45,7 @@ before cs (newHead node) k r lt e = go (mayAdd (count cs) node) (eqb k (count cs
 before cs (byte b t s) k r lt e = lt
 before cs (tick t) k r lt e = lt
 before cs (named j a) k r lt e = lt
+before cs (keys j s n) k r lt e = lt
 
 last : (cs : Calls) (k r : ℕ) → k < count cs → Last k r (value cs k r) cs
 unfolding account next look

@@ -1,14 +1,15 @@
 -- The value found by looking back lies in its row, as the head that holds it is well-formed; and it is a word of four bytes where the bytes
 -- of the calls are bytes, by induction over the calls.
 -- Assumes nothing.
-use Prim.Native.Nat.{ℕ, zero, suc, _<_}
+use Prim.Native.Nat.{ℕ, zero, suc, _<_, _≤_}
 use mathlib.Core.Path.{_≡_, refl, subst}
 use mathlib.Core.Bool.{Bool, true, false, cond, _&&_, and-eq-true-iff}
+use mathlib.Core.Logic.{_≢_}
 use mathlib.Core.List.{List, [], _∷_, _++_}
 use mathlib.Core.Option.{Option, none, some}
 use native.Mathlib.Nat.{not-suc-le-zero, le-of-suc-le-suc}
 use native.Mathlib.Omega.{arith}
-use borrow.Author.Tests.{ltb-true, leb-true}
+use borrow.Author.Tests.{ltb-true, leb-true, eqb-true}
 use lib.Dec.{leb, ltb, eqb}
 use lib.ListN.{length, getD}
 use Rattle.wire.specs.Telegram.{fieldsOf}
@@ -18,11 +19,11 @@ use Rattle.rows.proofs.Laws.{all-right-at}
 use Rattle.rows.proofs.Span.{in-span, is-true}
 use Rattle.state.specs.declared.parts.Head.{Head}
 use Rattle.state.specs.Wellformed.{wellformedOf}
-use Rattle.state.proofs.Laws.{told, stored-told}
+use Rattle.state.proofs.Laws.{told, stored-told, offer-told}
 use Rattle.line.specs.Round.{allFit}
 use Rattle.line.proofs.Laws.{fits-small, fits-heads}
-use Rattle.demands.specs.Calls.{Ask, measure, keys, power, Call, newHead, byte, tick, named, Calls, start, _▸_, Bytes}
-use Rattle.demands.specs.Past.{Ear, Entry, Change, nothing, making, mayAdd, room, since, gather, kept, earBy, accepted, resets, gives, locked, obeying, hearing, asked, delivered, makes, names, change, look, next, account, count, entry, value}
+use Rattle.demands.specs.Calls.{Ask, measure, power, Call, newHead, byte, tick, named, keys, Calls, start, _▸_, Bytes}
+use Rattle.demands.specs.Past.{Ear, Entry, Change, nothing, making, mayAdd, room, since, gather, kept, earBy, accepted, resets, gives, locked, obeying, withdrawn, dropping, hearing, asked, adopts, adopting, pressing, pressed, delivered, makes, names, change, look, next, account, count, entry, value, inForce}
 use Rattle.demands.specs.Run.{run, headIn}
 use Rattle.demands.proofs.Ear.{ear-all}
 use Rattle.demands.proofs.Sim.{fits, sim}
@@ -47,6 +48,13 @@ pub value-fits : (cs : Calls) (k r : ℕ) → k < count cs → r < 39 → fitsIn
 value-fits cs k r lt p =
     let w = stored-told (headIn cs k .stored) (told (headIn cs k) (well-at cs k lt) .stored) in
     subst (λ (x : ℕ). fitsIn (rowOf r) x ≡ true) (sim cs k lt .vals-are r p) (all-right-at (headIn cs k .stored .values) r (w .values) p)
+
+-- a number that is offered is at most 31, and is offered at 31
+pub offer-small : (cs : Calls) (k : ℕ) → k < count cs → (entry cs k .offer ≤ 31) × (entry cs k .offer ≢ 0 → inForce cs k ≡ 31)
+offer-small cs k lt =
+    let w = stored-told (headIn cs k .stored) (told (headIn cs k) (well-at cs k lt) .stored) in
+    let A = sim cs k lt in
+    rw (← A .offer-is, ← A .force-is) (offer-told (headIn cs k .stored .number) (headIn cs k .stored .offer) (w .offer))
 
 -- ---- a word of four bytes
 -- each element of a list is a byte
@@ -78,6 +86,7 @@ ear-small (byte b t x) g bs s =
     [ true ↦ either-small (ltb (length (gather g b t)) 10) (gather g b t) [] (gather-small g b t s (bs .1)) none-small | false ↦ s ]
 ear-small (tick t) g bs s = s
 ear-small (named j a) g bs s = s
+ear-small (keys j x n) g bs s = s
 
 gathered-small : (cs : Calls) (k : ℕ) → Bytes cs → Small (entry cs k .ear .bytes)
 gathered-small =
@@ -133,22 +142,35 @@ hearing-words : (e : Entry) (l : List ℕ) → Small l → Words (hearing e l)
 unfolding hearing Words
 hearing-words e l s =
     either-words (ltb (length l) 10) nothing _ none-words
-    (either-words (accepted (e .number) (locked e) l) (obeying (fieldsOf l .parameter) (fieldsOf l .value)) nothing
-    (λ r p. gives-word (fieldsOf l .parameter) (fieldsOf l .value) r (value-word l s) p) none-words)
+    (either-words (accepted (e .number) (locked e) l) (obeying (fieldsOf l .parameter) (fieldsOf l .value)) _
+    (λ r p. gives-word (fieldsOf l .parameter) (fieldsOf l .value) r (value-word l s) p)
+    (either-words (withdrawn (e .number) l) dropping nothing (λ r p. tt) none-words))
 
 asked-words : (a : Ask) (e : Entry) → Words (asked a e)
 unfolding asked Words
 asked-words (measure m) e r p = tt
-asked-words (keys s) e r p = tt
 asked-words power e r p = tt
 
-change-words : (c : Call) (n k : ℕ) (e : Entry) → Bytes (start ▸ c) → Small (e .ear .bytes) → Words (change c n k e)
+-- a number that is adopted is one that is offered
+pressed-words : (s m : ℕ) (e : Entry) → e .offer < 4294967296 → Words (pressed s m e)
+unfolding pressed Words
+pressed-words s m e o =
+    either-words (leb s 7 && room m) _ nothing
+    (either-words (adopts s e) (adopting (e .offer)) (pressing s) (λ r p. either-word (eqb r 0) (some (e .offer)) none o tt) (λ r p. tt)) none-words
+
+change-words : (c : Call) (n k : ℕ) (e : Entry) → Bytes (start ▸ c) → Small (e .ear .bytes) → (k < n → e .offer < 4294967296) → Words (change c n k e)
 unfolding change
-change-words (newHead node) n k e bs s = made-words n node k
-change-words (byte b t x) n k e bs s =
+change-words (newHead node) n k e bs s o = made-words n node k
+change-words (byte b t x) n k e bs s o =
     either-words (room x) (hearing e (gather (e .ear) b t)) nothing (hearing-words e (gather (e .ear) b t) (gather-small (e .ear) b t s (bs .1))) none-words
-change-words (tick t) n k e bs s = none-words
-change-words (named j a) n k e bs s = either-words (names n j k) (asked a e) nothing (asked-words a e) none-words
+change-words (tick t) n k e bs s o = none-words
+change-words (named j a) n k e bs s o = either-words (names n j k) (asked a e) nothing (asked-words a e) none-words
+change-words (keys j x m) n k e bs s o = go (ltb j n) refl (eqb k j) refl
+  where
+    go : (p : Bool) → ltb j n ≡ p → (q : Bool) → eqb k j ≡ q → Words (cond (p && q) (pressed x m e) nothing)
+    go true p true q = pressed-words x m e (o (rw (eqb-true k j q) (ltb-true j n p)))
+    go true p false q = none-words
+    go false p y q = none-words
 
 look-word : (o : Option ℕ) (v : ℕ) → Word o → v < 4294967296 → look o v < 4294967296
 unfolding look
@@ -161,4 +183,4 @@ unfolding account next Words delivered
 value-small start bs k r p = elim (eqb r 0) as (λ b. cond b 31 (delivery (rowOf r)) < 4294967296) [ true ↦ omega arith | false ↦ delivery-word r p ]
 value-small (cs ▸ c) bs k r p =
     look-word (change c (count cs) k (entry cs k) .gives r) (value cs k r)
-    (change-words c (count cs) k (entry cs k) (tt, bs .1) (gathered-small cs k (bs .0)) r p) (value-small cs (bs .0) k r p)
+    (change-words c (count cs) k (entry cs k) (tt, bs .1) (gathered-small cs k (bs .0)) (λ lt. omega (arith, offer-small cs k lt .0)) r p) (value-small cs (bs .0) k r p)

@@ -18,6 +18,20 @@ pub real : Real product
 unfolding called askOf
 real =
     record {
+      make-asks = λ κs a. tt;
+      byte-asks = λ κs a. tt;
+      tick-asks = λ κs a. tt;
+      measure-asks = λ κs a. tt;
+      keys-asks = λ κs a. tt;
+      power-asks = λ κs a. tt;
+      last-hit-asks = λ κs a. tt;
+      line-grow-asks = λ κs a. tt;
+      line-byte-asks = λ κs a. tt;
+      line-tick-asks = λ κs a. tt;
+      line-measure-asks = λ κs a. tt;
+      line-keys-asks = λ κs a. tt;
+      line-power-asks = λ κs a. tt;
+      line-last-hit-asks = λ κs a. tt;
       factory = λ κs a y u p. p ∙ factory-made;
       make = λ κs a y u p. p;
       byte = λ κs a y u p. p;

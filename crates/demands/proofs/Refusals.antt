@@ -6,10 +6,11 @@ use mathlib.Core.Path.{_≡_, refl, sym, _∙_, ap}
 use mathlib.Core.Bool.{Bool, true, false, cond, not, _&&_}
 use mathlib.Core.List.{List, [], _∷_, map}
 use mathlib.Core.Option.{none, some}
-use borrow.Author.Tests.{ltb-true, ltb-false, leb-true, leb-false, lt-ltb, le-ltb, le-leb, lt-leb}
+use borrow.Author.Tests.{ltb-true, leb-true, leb-false, lt-ltb, le-ltb}
 use lib.Dec.{leb, ltb}
 use lib.ListN.{length}
 use Rattle.rows.specs.Table.{rows}
+use Rattle.judge.proofs.Offers.{flip}
 use Rattle.state.specs.declared.parts.Head.{Head}
 use Rattle.state.specs.Wellformed.{inReachOf, wellformedOf}
 use Rattle.effects.specs.Stored.{restartedStored}
@@ -20,31 +21,31 @@ use Rattle.head.specs.declared.calls.Answer.{Answer}
 use Rattle.head.specs.declared.calls.Answer.the-variants as answer
 use Rattle.head.specs.declared.calls.Heard.{Heard}
 use Rattle.head.specs.declared.calls.Heard.the-variants as heard
+use Rattle.head.specs.declared.hear.Stepped.{Stepped}
+use Rattle.head.specs.Hear.{stepOf}
+use Rattle.head.specs.Moves.{keyedOf}
 use Rattle.head.specs.Refusals.{refusalOf}
 use Rattle.head.specs.Calls as head
 use Rattle.head.specs.Calls.{Tests, nodeFits, factoryOf, madeOf}
 use Rattle.head.specs.Outcome as alone
 use Rattle.head.proofs.Nodes.{node-same}
 use Rattle.head.proofs.Tests.{failed}
-use Rattle.head.proofs.Asked.{called-same, called-refusal}
+use Rattle.head.proofs.Asked.{called-same, called-refusal, lent-refusal}
 use Rattle.head.proofs.Refused.{refused-nothing}
 use Rattle.line.specs.declared.calls.Line.{Line}
 use Rattle.line.specs.declared.calls.Called.{Called}
-use Rattle.line.specs.Calls.{fitsOf, headAt, growOf, byteOf, byteSpaceOf, tickOf, namedOf, lastHitOf}
-use Rattle.line.proofs.Theorems.{grow-refused, tick-refused, named-refused, byte-refused, well-at}
-use Rattle.demands.specs.Calls.{Ask, Call, newHead, byte, tick, named}
+use Rattle.line.specs.Calls.{fitsOf, headAt, growOf, byteOf, byteSpaceOf, tickOf, namedOf, keysOf, keysSpaceOf, lastHitOf}
+use Rattle.line.proofs.Theorems.{grow-refused, tick-refused, named-refused, keys-refused, keys-spared, byte-refused, well-at}
+use Rattle.demands.specs.Calls.{Ask, Call, newHead, byte, tick, named, keys}
 use Rattle.demands.specs.Run.{product, aloneOf, after}
-use Rattle.demands.specs.Demand1.{Row, row, first, ownRows, nodeRow, namedRows, headRows, rowsFor, rowsAlone, numbered, ofAnswer, ofHeard, ofHit, refusedAs, refusedAlone, headAfter, spaceAfter, Numbered, Demand1}
+use Rattle.demands.specs.Demand1.{Row, row, first, ownRows, keysRows, nodeRow, namedRows, headRows, rowsFor, rowsAlone, numbered, ofAnswer, ofHeard, ofHit, refusedAs, refusedAlone, headAfter, spaceAfter, Numbered, Demand1}
 use Rattle.demands.proofs.Named.{ask-is}
 use Rattle.demands.proofs.Twenty.{twenty}
 
 -- ---- a test and its opposite
-flip : (a b : ℕ) → leb b a ≡ not (ltb a b)
-flip a b = go (ltb a b) refl
-  where
-    go : (t : Bool) → ltb a b ≡ t → leb b a ≡ not t
-    go true e = lt-leb b a (ltb-true a b e)
-    go false e = le-leb b a (ltb-false a b e)
+twice : (b : Bool) → not (not b) ≡ b
+twice true = refl
+twice false = refl
 
 over : (a b : ℕ) → ltb b a ≡ not (leb a b)
 over a b = go (leb a b) refl
@@ -66,20 +67,22 @@ own-rows : (a : alone.Ask) → map asRow (alone.own a) ≡ ownRows a
 unfolding alone.own inReachOf
 own-rows (alone.tick t) = refl
 own-rows (alone.measure m) = refl
-own-rows (alone.keys s) = rw (over s 7)
 own-rows alone.power = refl
 
 -- ---- the number of each refusal
 module _ (h : Head) where
-  head-byte : (b t : ℕ) (space : List ℕ) (w r : Bool) → wellformedOf h ≡ w → ltb (length space) 10 ≡ r
-      → refusedAlone (product .onHead) (alone.byte b t space) h ≡ first (rowsAlone (alone.byte b t space) h)
-  unfolding head.byteOf
-  head-byte b t space false r p q = simp p
-  head-byte b t space true false p q = simp (p, q)
-  head-byte b t space true true p q = simp (p, q)
+  -- a call that lends space: its tests are rows, and 6 is the last of them
+  lent-rows : (s : Stepped) (own : Tests) (n : ℕ) → ofHeard (head.lentOf h own n s .heard) ≡ first (map asRow (head.lentTests h own n))
+  lent-rows s own n = ap numbered (lent-refusal h s (head.lentTests h own n)) ∙ failed-first (head.lentTests h own n)
+
+  head-keys : (s n : ℕ) → ofHeard (head.keysOf h s n .heard) ≡ first (headRows h (keysRows s n))
+  unfolding head.keysOf
+  head-keys s n = lent-rows (keyedOf h s) (head.keysTests s) n ∙ rw (over s 7, twice (ltb n 10))
 
   head-number : (c : alone.Call) → refusedAlone (product .onHead) c h ≡ first (rowsAlone c h)
-  head-number (alone.byte b t space) = head-byte b t space (wellformedOf h) (ltb (length space) 10) refl refl
+  unfolding head.byteOf
+  head-number (alone.byte b t space) = lent-rows (stepOf h b t) [] (length space) ∙ rw (twice (ltb (length space) 10))
+  head-number (alone.keys s space) = head-keys s (length space)
   head-number (alone.asked a) =
       ap numbered (called-refusal a h) ∙ failed-first ((wellformedOf h, Malformed) ∷ alone.own a) ∙ rw (own-rows a)
 
@@ -118,6 +121,13 @@ module _ (l : Line) where
   named-number j a true true p q =
       let w = well-at l p j (ltb-true _ _ q) in simp (p, flip j (l .count), q) (simp w at (head-number (headAt l j) (alone.asked (aloneOf a))))
 
+  keys-number : (j s n : ℕ) (f i : Bool) → fitsOf l ≡ f → ltb j (l .count) ≡ i → ofHeard (keysOf l j s n .heard) ≡ first (rowsFor (keys j s n) l)
+  unfolding keysOf
+  keys-number j s n false i p q = simp p
+  keys-number j s n true false p q = simp (p, flip j (l .count), q)
+  keys-number j s n true true p q =
+      let w = well-at l p j (ltb-true _ _ q) in simp (p, flip j (l .count), q) (simp w at (head-keys (headAt l j) s n))
+
   line-hit : (j : ℕ) (f i : Bool) → fitsOf l ≡ f → ltb j (l .count) ≡ i → ofHit (lastHitOf l j) ≡ first (namedRows l j [])
   unfolding lastHitOf
   line-hit j false i p q = simp p
@@ -130,6 +140,7 @@ module _ (l : Line) where
   line-number (byte b t s) = byte-number b t s (fitsOf l) (ltb s 10) refl refl
   line-number (tick t) = tick-number t (fitsOf l) refl
   line-number (named j a) = rw (ask-is a l j) (named-number j a (fitsOf l) (ltb j (l .count)) refl refl)
+  line-number (keys j s n) = keys-number j s n (fitsOf l) (ltb j (l .count)) refl refl
 
 made-number : (node : ℕ) (t : Bool) → (leb 1 node && leb node 127) ≡ t
     → ofAnswer (madeOf node .answer) ≡ first (nodeRow node ∷ [])
@@ -169,6 +180,9 @@ byte-same l b t s false r n p q e = simp p
 byte-same l b t s true true n p q e = simp (p, q)
 byte-same l b t s true false n p q e = let k : none ≡ some n = simp (p, q) at e in absurd (let z : _≡_ {A = ℕ} 0 1 = cc in omega arith)
 
+keys-same : (l : Line) (j s : ℕ) (space : List ℕ) (n : ℕ) → refusedAs (product .onLine) (keys j s (length space)) l ≡ some n → keysSpaceOf l j s space ≡ space
+keys-same l j s space n e = let w = heard-as (keysOf l j s (length space) .heard) e in keys-spared l j s space (w .0) (w .1)
+
 line-same : (c : Call) (l : Line) (n : ℕ) → refusedAs (product .onLine) c l ≡ some n → after (product .onLine) c l ≡ l
 unfolding after
 line-same (newHead node) l n e = let w = answered (growOf l node .answer) e in grow-refused l node (w .0) (w .1)
@@ -178,6 +192,7 @@ line-same (named j a) l n e =
     let c = alone.called (aloneOf a) (headAt l j) in
     let w = answered (namedOf l j c .answer) (rw (ask-is a l j) at e) in
     ap (λ (x : Called). x .line) (ask-is a l j) ∙ (named-refused l j c (called-same (aloneOf a) (headAt l j)) (w .0) (w .1))
+line-same (keys j s n) l m e = let w = heard-as (keysOf l j s n .heard) e in keys-refused l j s n (w .0) (w .1)
 
 space-same : (l : Line) (b t : ℕ) (space : List ℕ) (n : ℕ) → refusedAs (product .onLine) (byte b t (length space)) l ≡ some n → byteSpaceOf l b t space ≡ space
 space-same l b t space n e =
@@ -188,6 +203,9 @@ head-same : (c : alone.Call) (h : Head) (n : ℕ) → refusedAlone (product .onH
 head-same (alone.byte b t space) h n e =
     let w = heard-as (head.byteOf h b t (length space) .heard) e in
     let u = refused-nothing (alone.byte b t space) h (ap alone.ofHeard (w .1)) in (u .head, u .space)
+head-same (alone.keys s space) h n e =
+    let w = heard-as (head.keysOf h s (length space) .heard) e in
+    let u = refused-nothing (alone.keys s space) h (ap alone.ofHeard (w .1)) in (u .head, u .space)
 head-same (alone.asked a) h n e = let w = answered (alone.called a h .answer) e in (called-same a h (w .0) (w .1), refl)
 
 pub demand1 : Demand1 product
@@ -203,5 +221,6 @@ demand1 =
       made-factory = λ node n. made-factory node n (nodeFits node) refl;
       line-same = line-same;
       space-same = space-same;
+      keys-same = keys-same;
       head-same = head-same;
     }

@@ -13,36 +13,42 @@ use lib.IntN.{ℤ}
 use lib.ListN.{length, getD, set, take, length-set, List·getD-map}
 use lib.Seq.{getD-set-same, getD-set-other}
 use Rattle.rows.specs.Table.{rows, rowOf, blank, delivery}
+use Rattle.wire.specs.Telegram.{fieldsOf}
 use Rattle.judge.specs.Judged.{judgedOf}
 use Rattle.state.specs.declared.parts.Head.{Head}
 use Rattle.state.specs.declared.parts.Stored.{Stored}
 use Rattle.state.specs.declared.parts.Ear.{Ear}
 use Rattle.state.specs.Settings.{valueAt, timeoutPlace, calibrationKeyPlace, incrementalKeyPlace}
+use Rattle.state.specs.Status.{statusOf}
 use Rattle.state.specs.Wellformed.{inReachOf}
-use Rattle.effects.specs.Stored.{lockedOf, restartedStored}
-use Rattle.effects.specs.Restart.{emptyEar, restartedOf, deliveredOf, freshOf}
+use Rattle.effects.specs.Stored.{lockedOf, adoptedStored, restartedStored}
+use Rattle.effects.specs.Restart.{emptyEar, restartedOf, withStored, adoptedOf, deliveredOf, freshOf}
+use Rattle.reply.specs.Reply.{adoptionOf}
 use Rattle.head.specs.declared.hear.Stepped.{Stepped}
 use Rattle.head.specs.Hear.{elapsedOf, standingOf, stepOf, tellOf}
-use Rattle.head.specs.Moves.{overdueOf, tickedOf, measuredOf, keyedOf, leftOf, upOf, pressedOf, withKeys}
+use Rattle.head.specs.Moves.{overdueOf, tickedOf, measuredOf, leftKey, upKey, leftOf, upOf, pressedOf, withKeys, leftTaken, adoptsOf, keyedOf}
 use Rattle.head.specs.Outcome as alone
 use Rattle.line.specs.Calls.{emptyOf, fitsOf}
 use Rattle.line.proofs.Theorems.{empty-fits}
-use Rattle.head.proofs.Again.{told-stored}
-use Rattle.demands.specs.Calls.{Ask, measure, keys, power, Call, newHead, byte, tick, named, Calls, start, _▸_}
+use Rattle.head.proofs.Again.{told-stored, told-keys}
+use Rattle.head.proofs.Passes.{unanswered}
+use Rattle.demands.specs.Calls.{Ask, measure, power, Call, newHead, byte, tick, named, keys, Calls, start, _▸_}
 use Rattle.demands.specs.Past as past
-use Rattle.demands.specs.Past.{Entry, Change, nothing, delivered, making, mayAdd, grown, room, gather, kept, earBy, noBytes, locked, telling, hearing, cutting, asked, makes, names, change, look, next, entryBy, account, count, entry}
+use Rattle.demands.specs.Past.{Entry, Change, nothing, delivered, making, mayAdd, grown, room, gather, kept, earBy, noBytes, locked, accepted, obeying, withdrawn, dropping, telling, hearing, cutting, asked, adopts, adopting, pressing, pressed, makes, names, change, look, next, entryBy, account, count, entry}
 use Rattle.demands.specs.Run.{runs, run, headIn}
-use Rattle.demands.proofs.Telegram.{Becomes, told-becomes}
-use Rattle.demands.proofs.Ear.{Gathered, ear-short, ear-whole, told-none}
-use Rattle.demands.proofs.Heads.{after-keeps, after-count, askedOf, headBy, after-at}
+use Rattle.demands.proofs.Telegram.{Becomes, set-gives, told-becomes, told-restarts}
+use Rattle.demands.proofs.Ear.{Gathered, ear-short, ear-whole, ear-alone, told-none}
+use Rattle.demands.proofs.Heads.{after-keeps, after-count, askedOf, keyedBy, headBy, after-at}
 
--- a head h is what its entry says of it: its values, its number in force, its interlock, its bytes
+-- a head h is what its entry says of it: its values, its number in force, its interlock, its bytes, the number that is offered, its keys
 pub record Is (h : Head) (e : Entry) : Type 0 where
   pub size : length (h .stored .values) ≡ 39
   pub vals-are : (r : ℕ) → r < 39 → getD (h .stored .values) r 0 ≡ e .value r
   pub force-is : h .stored .number ≡ e .number
   pub open-is : h .stored .unlocked ≡ e .isOpen
   pub ear-is : Gathered h (e .ear)
+  pub offer-is : h .stored .offer ≡ e .offer
+  pub keys-is : h .keys ≡ e .keys
 
 -- the line fits, has as many heads as the account counts, and places for eight
 pub record Fits (cs : Calls) : Type 0 where
@@ -86,75 +92,77 @@ made-is node ear e =
       force-is = fresh-values node 0;
       open-is = refl;
       ear-is = record { few = omega arith; long = refl; got-is = refl; time-is = inl refl };
+      offer-is = refl;
+      keys-is = refl;
     }
 
--- ---- a head of which the stored part and the bytes are as they were
+-- ---- a head of which the stored part, the bytes and the keys are as they were
 record Keeps (h x : Head) : Type 0 where
   stored : x .stored ≡ h .stored
   ear : x .ear ≡ h .ear
+  keys : x .keys ≡ h .keys
 
 either-keeps : (h : Head) (b : Bool) (x y : Head) → Keeps h x → Keeps h y → Keeps h (cond b x y)
 either-keeps h true x y p q = p
 either-keeps h false x y p q = q
 
+same : {h : Head} → Keeps h h
+same = record { stored = refl; ear = refl; keys = refl }
+
 tick-keeps : (h : Head) (t : ℕ) → Keeps h (tickedOf h t)
 unfolding tickedOf
 tick-keeps h t =
     either-keeps h (h .monitor .running && overdueOf (valueAt (h .stored .values) timeoutPlace) (elapsedOf t (h .monitor .since))) _ _
-    (record { stored = refl; ear = refl }) (record { stored = refl; ear = refl })
+    (record { stored = refl; ear = refl; keys = refl }) same
 
 measure-keeps : (h : Head) (m : ℤ) → Keeps h (measuredOf h m)
 unfolding measuredOf
-measure-keeps h m = record { stored = refl; ear = refl }
+measure-keeps h m = record { stored = refl; ear = refl; keys = refl }
 
 left-keeps : (on : Bool) (h : Head) → Keeps h (leftOf on h)
 unfolding leftOf
-left-keeps false h = record { stored = refl; ear = refl }
+left-keeps false h = same
 left-keeps true h =
-    either-keeps h (not (eqb (h .faults .pending) 0)) _ _ (record { stored = refl; ear = refl })
-    (either-keeps h (eqb (valueAt (h .stored .values) calibrationKeyPlace) 1) _ _ (record { stored = refl; ear = refl }) (record { stored = refl; ear = refl }))
+    either-keeps h (not (eqb (h .faults .pending) 0)) _ _ (record { stored = refl; ear = refl; keys = refl })
+    (either-keeps h (eqb (valueAt (h .stored .values) calibrationKeyPlace) 1) _ _ (record { stored = refl; ear = refl; keys = refl }) same)
 
 up-keeps : (on : Bool) (h : Head) → Keeps h (upOf on h)
 unfolding upOf
 up-keeps on h =
-    either-keeps h (on && eqb (valueAt (h .stored .values) incrementalKeyPlace) 1) _ _
-    (record { stored = refl; ear = refl }) (record { stored = refl; ear = refl })
-
-keys-keeps : (h : Head) (s : ℕ) → Keeps h (keyedOf h s)
-unfolding keyedOf
-keys-keeps h s =
-    let a = left-keeps (pressedOf s (h .keys) 1) (withKeys h s) in
-    let b = up-keeps (pressedOf s (h .keys) 4) (leftOf (pressedOf s (h .keys) 1) (withKeys h s)) in
-    record { stored = b .stored ∙ a .stored; ear = b .ear ∙ a .ear }
-
-same : {h : Head} → Keeps h h
-same = record { stored = refl; ear = refl }
+    either-keeps h (on && eqb (valueAt (h .stored .values) incrementalKeyPlace) 1) _ _ (record { stored = refl; ear = refl; keys = refl }) same
 
 -- ---- one call, at head k of n heads
 module _ (h : Head) (e : Entry) (A : Is h e) where
   -- a head whose stored part a change has made what it is
-  changed : (g : Change) (ear : past.Ear) (x : Head) → Becomes (h .stored) g (x .stored) → Gathered x (cond (g .restarts) noBytes ear) → Is x (next g ear e)
+  changed : (g : Change) (ear : past.Ear) (x : Head) → Becomes (h .stored) g (x .stored) → Gathered x (cond (g .restarts) noBytes ear)
+      → x .keys ≡ cond (g .restarts) 0 (look (g .presses) (h .keys)) → Is x (next g ear e)
   unfolding next
-  changed g ear x b k =
+  changed g ear x b k q =
       record {
         size = b .size ∙ A .size;
         vals-are = λ r lt. b .vals r lt ∙ ap (λ (v : ℕ). look (g .gives r) v) (A .vals-are r lt);
         force-is = b .force ∙ rw (A .vals-are 0 (omega arith), A .force-is);
         open-is = b .lock ∙ ap (λ (o : Bool). look (g .opens) o) (A .open-is);
         ear-is = k;
+        offer-is = b .offer ∙ rw (A .offer-is);
+        keys-is = q ∙ rw (A .keys-is);
       }
 
-  -- with the same stored part, whatever the bytes
-  same-stored : (ear : past.Ear) (x : Head) → x .stored ≡ h .stored → Gathered x ear → Is x (next nothing ear e)
+  -- with the same stored part, whatever the bytes, and with the same keys or others
+  unchanged : (x : Head) → x .stored ≡ h .stored → Becomes (h .stored) nothing (x .stored)
   unfolding look
-  same-stored ear x q k =
-      changed nothing ear x
-      (record {
+  unchanged x q =
+      record {
         size = ap (λ (s : Stored). length (s .values)) q;
         vals = λ r lt. ap (λ (s : Stored). getD (s .values) r 0) q;
         force = ap (λ (s : Stored). s .number) q;
         lock = ap (λ (s : Stored). s .unlocked) q;
-      }) k
+        offer = ap (λ (s : Stored). s .offer) q;
+      }
+
+  same-stored : (ear : past.Ear) (x : Head) → x .stored ≡ h .stored → Gathered x ear → x .keys ≡ h .keys → Is x (next nothing ear e)
+  unfolding look
+  same-stored ear x q k p = changed nothing ear x (unchanged x q) k p
 
   -- the bytes gathered lie in the ear alone
   same-ear : (x : Head) → x .ear ≡ h .ear → Gathered x (e .ear)
@@ -168,13 +176,67 @@ module _ (h : Head) (e : Entry) (A : Is h e) where
       }
 
   idle-is : (x : Head) → Keeps h x → Is x (next nothing (e .ear) e)
-  idle-is x k = same-stored (e .ear) x (k .stored) (same-ear x (k .ear))
+  idle-is x k = same-stored (e .ear) x (k .stored) (same-ear x (k .ear)) (k .keys)
+
+  -- none stands gathered after a restart
+  restarted-none : (x : Head) → Gathered (restartedOf x) noBytes
+  unfolding restartedOf emptyEar
+  restarted-none x = record { few = omega arith; long = refl; got-is = refl; time-is = inl refl }
 
   cut-is : (ear : past.Ear) → Is (restartedOf h) (next cutting ear e)
-  unfolding look restartedOf restartedStored emptyEar
+  unfolding look restartedOf restartedStored
   cut-is ear =
-      changed cutting ear (restartedOf h) (record { size = refl; vals = λ r lt. refl; force = refl; lock = refl })
-      (record { few = omega arith; long = refl; got-is = refl; time-is = inl refl })
+      changed cutting ear (restartedOf h) (record { size = refl; vals = λ r lt. refl; force = refl; lock = refl; offer = refl }) (restarted-none h) refl
+
+  -- ---- keys: left and up, or an adoption
+  left-is : (s : ℕ) → Keeps (withKeys h s) (leftTaken h s)
+  left-is s = left-keeps (pressedOf s (h .keys) leftKey) (withKeys h s)
+
+  pressed-up : (s : ℕ) → Is (upOf (pressedOf s (h .keys) upKey) (leftTaken h s)) (next (pressing s) (e .ear) e)
+  unfolding look
+  pressed-up s =
+      let a = left-is s in
+      let b = up-keeps (pressedOf s (h .keys) upKey) (leftTaken h s) in
+      let x = upOf (pressedOf s (h .keys) upKey) (leftTaken h s) in
+      let u = unchanged x (b .stored ∙ a .stored) in
+      changed (pressing s) (e .ear) x (record { size = u .size; vals = u .vals; force = u .force; lock = u .lock; offer = u .offer })
+      (same-ear x (b .ear ∙ a .ear)) (b .keys ∙ a .keys)
+
+  adoption-becomes : (st : Stored) → st ≡ h .stored → Becomes (h .stored) (adopting (e .offer)) (restartedStored (adoptedStored st))
+  unfolding look restartedStored adoptedStored
+  adoption-becomes st q =
+      let n : 0 < length (h .stored .values) = omega (arith, A .size) in
+      rw q record {
+        size = length-set (h .stored .values) 0 (h .stored .offer);
+        vals = λ r lt. rw (← A .offer-is) (set-gives (h .stored .values) 0 (h .stored .offer) r (omega (arith, A .size)));
+        force = rw (← A .offer-is) (getD-set-same (h .stored .values) 0 (h .stored .offer) 0 n);
+        lock = refl;
+        offer = refl;
+      }
+
+  adopted-is : (s : ℕ) → Is (adoptedOf (leftTaken h s)) (next (adopting (e .offer)) (e .ear) e)
+  unfolding adoptedOf restartedOf
+  adopted-is s =
+      changed (adopting (e .offer)) (e .ear) (adoptedOf (leftTaken h s)) (adoption-becomes (leftTaken h s .stored) (left-is s .stored))
+      (restarted-none (withStored (leftTaken h s) (adoptedStored (leftTaken h s .stored)))) refl
+
+  pub adopts-is : (s : ℕ) → adoptsOf h s ≡ adopts s e
+  unfolding pressedOf
+  adopts-is s = rw (A .keys-is, A .offer-is)
+
+  keys-is : (s n : ℕ) → Is (keyedBy s n h) (next (pressed s n e) (e .ear) e)
+  unfolding keyedBy pressed keyedOf
+  keys-is s n = rw (adopts-is s) (go (leb s 7 && room n) (adopts s e))
+    where
+      announcing : Head → Stepped
+      announcing x = record { head = x; replied = true; reply = adoptionOf (statusOf h) (h .stored .offer) }
+
+      go : (x y : Bool)
+          → Is (cond x (cond y (announcing (adoptedOf (leftTaken h s))) (unanswered (upOf (pressedOf s (h .keys) upKey) (leftTaken h s))) .head) h)
+          (next (cond x (cond y (adopting (e .offer)) (pressing s)) nothing) (e .ear) e)
+      go true true = adopted-is s
+      go true false = pressed-up s
+      go false y = idle-is h same
 
   -- what the checks ask of the head is what the account has
   pub locked-is : standingOf h .locked ≡ locked e
@@ -186,12 +248,23 @@ module _ (h : Head) (e : Entry) (A : Is h e) where
   unfolding standingOf
   number-is = A .force-is
 
+  -- no telegram presses a key
+  presses-none : (ten : List ℕ) → look (telling e ten .presses) (h .keys) ≡ h .keys
+  unfolding look
+  presses-none ten = go (accepted (e .number) (locked e) ten) (withdrawn (e .number) ten)
+    where
+      go : (x y : Bool) → look (cond x (obeying (fieldsOf ten .parameter) (fieldsOf ten .value)) (cond y dropping nothing) .presses) (h .keys) ≡ h .keys
+      go true y = refl
+      go false true = refl
+      go false false = refl
+
   told-is : (ten : List ℕ) (t : ℕ) (ear : past.Ear) → ear .bytes ≡ [] → Is (tellOf h ten t .head) (next (telling e ten) ear e)
   unfolding tellOf
   told-is ten t ear none =
       changed (telling e ten) ear (tellOf h ten t .head)
       (rw (told-stored (judgedOf ten (standingOf h)) h t) (told-becomes ten (standingOf h) (h .stored) (e .number) (locked e) (A .size) number-is locked-is))
       (told-none h ten t _ (elim (telling e ten .restarts) as (λ x. cond x noBytes ear .bytes ≡ []) [ true ↦ refl | false ↦ none ]))
+      (told-keys (judgedOf ten (standingOf h)) h t ∙ rw (told-restarts ten (standingOf h) (e .number) (locked e) number-is locked-is, presses-none ten))
 
   heard-is : (b t : ℕ) → Is (stepOf h b t .head) (next (hearing e (gather (e .ear) b t)) (record { bytes = kept (gather (e .ear) b t); last = t }) e)
   unfolding hearing kept
@@ -205,6 +278,7 @@ module _ (h : Head) (e : Entry) (A : Is h e) where
       go true p =
           let s = ear-short h (e .ear) b t (A .ear-is) (ltb-true _ _ p) in
           same-stored (record { bytes = l; last = t }) (stepOf h b t .head) (s .stored) (s .more)
+          (ap (λ (x : Head). x .keys) (ear-alone h (e .ear) b t (A .ear-is) (ltb-true _ _ p)))
       go false p =
           subst (λ (s : Stepped). Is (s .head) (next (telling e l) (record { bytes = []; last = t }) e)) (sym (ear-whole h (e .ear) b t (A .ear-is) (ltb-false _ _ p)))
           (told-is l t (record { bytes = []; last = t }) refl)
@@ -212,7 +286,6 @@ module _ (h : Head) (e : Entry) (A : Is h e) where
   ask-is : (a : Ask) → Is (askedOf a h) (next (asked a e) (e .ear) e)
   unfolding askedOf alone.own alone.next asked
   ask-is (measure m) = idle-is _ (either-keeps h (inReachOf m) (measuredOf h m) h (measure-keeps h m) same)
-  ask-is (keys s) = idle-is _ (either-keeps h (leb s 7) (keyedOf h s) h (keys-keeps h s) same)
   ask-is power = cut-is (e .ear)
 
   step-is : (c : Call) (n k : ℕ) → Is (headBy c n k h) (entryBy c n k e)
@@ -226,6 +299,8 @@ module _ (h : Head) (e : Entry) (A : Is h e) where
   step-is (tick t) n k = idle-is (tickedOf h t) (tick-keeps h t)
   step-is (named j a) n k =
       elim (names n j k) as (λ x. Is (cond x (askedOf a h) h) (next (cond x (asked a e) nothing) (e .ear) e)) [ true ↦ ask-is a | false ↦ idle-is h same ]
+  step-is (keys j s r) n k =
+      elim (names n j k) as (λ x. Is (cond x (keyedBy s r h) h) (next (cond x (pressed s r e) nothing) (e .ear) e)) [ true ↦ keys-is s r | false ↦ idle-is h same ]
 
 -- ---- for every list of calls
 module _ (cs : Calls) (c : Call) (k : ℕ) (lt : k < grown c (count cs)) where
@@ -265,6 +340,7 @@ old-or-new cs (newHead node) k Q lt old new = go (mayAdd (count cs) node) refl (
 old-or-new cs (byte b t s) k Q lt old new = old lt
 old-or-new cs (tick t) k Q lt old new = old lt
 old-or-new cs (named j a) k Q lt old new = old lt
+old-or-new cs (keys j s n) k Q lt old new = old lt
 
 -- so what holds of a head when it is made, and after each call if it held before, holds of every head
 pub of-heads : (P : Calls → ℕ → Type 0)

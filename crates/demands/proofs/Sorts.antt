@@ -1,4 +1,4 @@
--- The sorts of an address that the account tells apart: one of the 39, A0h, A8h, and any other, a telegram to which stores nothing. What the
+-- The sorts of an address that the account tells apart: one of the 39, A0h, A8h, D2h, and any other, a telegram to which stores nothing. What the
 -- account asks of an address is found from its sort.
 -- Assumes nothing.
 use Prim.Native.Nat.{ℕ, _<_}
@@ -12,7 +12,7 @@ use Rattle.rows.specs.declared.table.Place.the-variants.{At, Nowhere}
 use Rattle.rows.specs.declared.access.Access.the-variants.{ReadOnly}
 use Rattle.rows.specs.declared.kind.Kind.the-variants.{Stored, WriteOnly}
 use Rattle.rows.specs.declared.kind.Order.{Order}
-use Rattle.rows.specs.declared.kind.Order.the-variants.{System, Calibration, Interlock, Freezing}
+use Rattle.rows.specs.declared.kind.Order.the-variants.{System, Calibration, Interlock, Freezing, Assignment}
 use Rattle.rows.specs.Table.{rows, rowOf, address, placeOf}
 use Rattle.rows.specs.Access.{accessOf}
 use Rattle.rows.specs.Kinds.{otherOf, kindOf}
@@ -31,16 +31,18 @@ pub data Sort (a : ℕ) : Type 0 where
   value : (i : ℕ) → placeOf a ≡ At i → Sort a
   system : a ≡ 0xA0 → Sort a
   interlock : a ≡ 0xA8 → Sort a
-  other : placeOf a ≡ Nowhere → eqb a 0xA0 ≡ false → eqb a 0xA8 ≡ false → Sort a
+  assignment : a ≡ 0xD2 → Sort a
+  other : placeOf a ≡ Nowhere → eqb a 0xA0 ≡ false → eqb a 0xA8 ≡ false → eqb a 0xD2 ≡ false → Sort a
 
 pub sortOf : (a : ℕ) → Sort a
-sortOf a = go (placeOf a) refl (eqb a 0xA0) refl (eqb a 0xA8) refl
+sortOf a = go (placeOf a) refl (eqb a 0xA0) refl (eqb a 0xA8) refl (eqb a 0xD2) refl
   where
-    go : (p : Place) → placeOf a ≡ p → (x : Bool) → eqb a 0xA0 ≡ x → (y : Bool) → eqb a 0xA8 ≡ y → Sort a
-    go (At i) e x p y q = value i e
-    go Nowhere e true p y q = system (eqb-true a 0xA0 p)
-    go Nowhere e false p true q = interlock (eqb-true a 0xA8 q)
-    go Nowhere e false p false q = other e p q
+    go : (p : Place) → placeOf a ≡ p → (x : Bool) → eqb a 0xA0 ≡ x → (y : Bool) → eqb a 0xA8 ≡ y → (z : Bool) → eqb a 0xD2 ≡ z → Sort a
+    go (At i) e x p y q z r = value i e
+    go Nowhere e true p y q z r = system (eqb-true a 0xA0 p)
+    go Nowhere e false p true q z r = interlock (eqb-true a 0xA8 q)
+    go Nowhere e false p false q true r = assignment (eqb-true a 0xD2 r)
+    go Nowhere e false p false q false r = other e p q r
 
 -- ---- what stands behind an address, by its sort
 pub value-kind : (a i : ℕ) → placeOf a ≡ At i → kindOf a ≡ Stored i
@@ -55,24 +57,29 @@ pub interlock-kind : kindOf 0xA8 ≡ WriteOnly Interlock
 unfolding kindOf placeOf rows otherOf
 interlock-kind = refl
 
+pub assignment-kind : kindOf 0xD2 ≡ WriteOnly Assignment
+unfolding kindOf placeOf rows otherOf
+assignment-kind = refl
+
 -- what holds of each deed of any other address holds of its deed
-pub other-deed : (P : Deed → Type 0) (v w a : ℕ) → placeOf a ≡ Nowhere → eqb a 0xA0 ≡ false → eqb a 0xA8 ≡ false
+pub other-deed : (P : Deed → Type 0) (v w a : ℕ) → placeOf a ≡ Nowhere → eqb a 0xA0 ≡ false → eqb a 0xA8 ≡ false → eqb a 0xD2 ≡ false
     → P Nothing → P Calibrate → P Freeze → P (Aim1 v w) → P (Aim2 v w) → P (doneBy (kindOf a) v w)
 unfolding kindOf doneBy
-other-deed P v w a e p q none calibrate freeze aim1 aim2 = rw e (other-has (λ k. P (doneBy k v w)) a aim1 aim2 (λ s. none) order none)
+other-deed P v w a e p q r none calibrate freeze aim1 aim2 = rw e (other-has (λ k. P (doneBy k v w)) a aim1 aim2 (λ s. none) order none)
   where
     order : (o : Order) → eqb a (orderAt o) ≡ true → P (doneBy (WriteOnly o) v w)
     order System is = absurd (true≢false (sym is ∙ p))
     order Calibration is = calibrate
     order Interlock is = absurd (true≢false (sym is ∙ q))
     order Freezing is = freeze
+    order Assignment is = absurd (true≢false (sym is ∙ r))
 
-pub other-still : (v w : ℕ) (st : parts.Stored) (a : ℕ) → placeOf a ≡ Nowhere → eqb a 0xA0 ≡ false → eqb a 0xA8 ≡ false
+pub other-still : (v w : ℕ) (st : parts.Stored) (a : ℕ) → placeOf a ≡ Nowhere → eqb a 0xA0 ≡ false → eqb a 0xA8 ≡ false → eqb a 0xD2 ≡ false
     → storedAfter (doneBy (kindOf a) v w) st ≡ st
 unfolding storedAfter storedBy restartsOf
-other-still v w st a e p q = other-deed (λ d. storedAfter d st ≡ st) v w a e p q refl refl refl refl refl
+other-still v w st a e p q r = other-deed (λ d. storedAfter d st ≡ st) v w a e p q r refl refl refl refl refl
 
--- A0h and A8h are none of the 39
+-- A0h, A8h and D2h are none of the 39
 pub system-nowhere : placeOf 0xA0 ≡ Nowhere
 unfolding placeOf rows
 system-nowhere = refl
@@ -80,6 +87,10 @@ system-nowhere = refl
 pub interlock-nowhere : placeOf 0xA8 ≡ Nowhere
 unfolding placeOf rows
 interlock-nowhere = refl
+
+pub assignment-nowhere : placeOf 0xD2 ≡ Nowhere
+unfolding placeOf rows
+assignment-nowhere = refl
 
 -- ---- which address is that of place r
 not-at : {p : Place} {i : ℕ} → p ≡ Nowhere → p ≡ At i → ⊥
@@ -101,6 +112,9 @@ value-system a i e = ne-eqb a 0xA0 (λ q. not-at system-nowhere (rw q at e))
 
 pub value-interlock : (a i : ℕ) → placeOf a ≡ At i → eqb a 0xA8 ≡ false
 value-interlock a i e = ne-eqb a 0xA8 (λ q. not-at interlock-nowhere (rw q at e))
+
+pub value-assignment : (a i : ℕ) → placeOf a ≡ At i → eqb a 0xD2 ≡ false
+value-assignment a i e = ne-eqb a 0xD2 (λ q. not-at assignment-nowhere (rw q at e))
 
 -- ---- the one address whose reads have a check of their own is read only
 pub number-access : (a : ℕ) → eqb a 0x96 ≡ true → accessOf a ≡ ReadOnly

@@ -30,20 +30,21 @@ use Rattle.judge.specs.declared.verdict.Verdict.{Verdict}
 use Rattle.judge.specs.declared.verdict.Verdict.the-variants.{Obeyed, Silent, Refused}
 use Rattle.judge.specs.declared.verdict.Standing.{Standing}
 use Rattle.judge.specs.declared.deed.Deed.{Deed}
-use Rattle.judge.specs.declared.deed.Deed.the-variants.{Nothing, Reset, Restart, Calibrate, Forget}
+use Rattle.judge.specs.declared.deed.Deed.the-variants.{Nothing, Reset, Restart, Calibrate, Forget, Withdraw}
 use Rattle.judge.specs.Commands.{commandOf, castsOf, changesOf}
 use Rattle.judge.specs.Checks.{commandCheck, parameterCheck, accessCheck, lockableOf}
 use Rattle.judge.specs.Verdicts.{mineOf, verdictOf}
-use Rattle.judge.specs.Deeds.{systemOf, doneBy, shownBy, deedOf}
+use Rattle.judge.specs.Deeds.{systemOf, doneBy, shownBy, refusedBy, deedOf}
 use Rattle.judge.specs.Judged.{judgedOf}
 use Rattle.judge.proofs.Laws.{isObeyed, obeyed-is}
+use Rattle.judge.proofs.Offers.{drops, drops-is}
 use Rattle.state.specs.declared.parts.Stored as parts
-use Rattle.effects.specs.Stored.{resetValue, restartedStored, storedBy}
+use Rattle.effects.specs.Stored.{resetValue, withOffer, restartedStored, storedBy}
 use Rattle.effects.proofs.Values.{reset-at, reset-length}
 use Rattle.head.specs.Hear.{restartsOf}
 use Rattle.head.proofs.Again.{storedAfter}
-use Rattle.demands.specs.Past.{Change, nothing, writable, lockable, accepted, resets, gives, obeying, look}
-use Rattle.demands.proofs.Sorts.{Sort, value, system, interlock, other, sortOf, value-kind, system-kind, interlock-kind, other-deed, other-still, system-nowhere, interlock-nowhere, nowhere-apart, value-same, value-system, value-interlock, number-access}
+use Rattle.demands.specs.Past.{Change, nothing, writable, lockable, accepted, resets, gives, obeying, withdrawn, dropping, look}
+use Rattle.demands.proofs.Sorts.{Sort, value, system, interlock, assignment, other, sortOf, value-kind, system-kind, interlock-kind, assignment-kind, other-deed, other-still, system-nowhere, interlock-nowhere, assignment-nowhere, nowhere-apart, value-same, value-system, value-interlock, value-assignment, number-access}
 
 cond-map : {A B : Type 0} (f : A → B) (b : Bool) (x y : A) → f (cond b x y) ≡ cond b (f x) (f y)
 cond-map f true x y = refl
@@ -80,16 +81,16 @@ cast-access a = go (eqb a 0xA0) refl (eqb a 0xA8) refl (eqb a 0xAA) refl
     go false p false q false r e = absurd (true≢false (sym e))
 
 -- ---- the ordered checks of what changes something come to the plain conjunction
-module _ (locked lockable right : Bool) where
+module _ (locked lockable elsewhere right : Bool) where
   abbrev passed : Command → Bool → Bool → Access → Bool → Bool → Bool
   passed c sound mine a castable over =
       sound
       && ((castsOf c || mine)
       && ((isObeyed (commandCheck c) && (isObeyed (parameterCheck a) && isObeyed (accessCheck c a castable)))
-      && (not (locked && (changesOf c && lockable)) && ((not (changesOf c) || right) && not over))))
+      && (not (locked && (changesOf c && lockable)) && (not (changesOf c && elsewhere) && ((not (changesOf c) || right) && not over)))))
 
   plain : (c : Command) (sound mine : Bool) (a : Access) (castable over : Bool) → (over ≡ true → a ≡ ReadOnly) → (castable ≡ true → a ≡ WriteOnly)
-      → passed c sound mine a castable over && changesOf c ≡ sound && (takes c mine a castable && (not (locked && lockable) && right))
+      → passed c sound mine a castable over && changesOf c ≡ sound && (takes c mine a castable && (not (locked && lockable) && (not elsewhere && right)))
   unfolding commandCheck parameterCheck accessCheck
   plain Read sound mine a castable over n m = simp and-false
   plain Write false mine a castable over n m = refl
@@ -105,30 +106,46 @@ module _ (locked lockable right : Bool) where
   plain Broadcast true mine a false over n m = simp and-false
   plain Other sound mine a castable over n m = simp and-false
 
-accepted-is : (ten : List ℕ) (s : Standing)
+-- a number is offered only where the number in force is 31
+may-offer : (x y : Bool) → not (x && not y) ≡ (not x || y)
+may-offer true true = refl
+may-offer true false = refl
+may-offer false y = refl
+
+pub accepted-is : (ten : List ℕ) (s : Standing)
     → isObeyed (judgedOf ten s .verdict) && changesOf (judgedOf ten s .command) ≡ accepted (s .number) (s .locked) ten
 unfolding judgedOf accepted lockable lockableOf broadcastOf
 accepted-is ten s =
     let t : Telegram = fieldsOf ten in
-    rw (obeyed-is (hitOf ten) t s, ← takes-is (t .command) (mineOf t s) (accessOf (t .parameter)) (broadcastOf (t .parameter)))
-    (plain (s .locked) (lockable (t .parameter)) (isRight (rangeOf (t .parameter) (t .value))) (commandOf (t .command)) (eqb (hitOf ten) 0) (mineOf t s)
+    rw (
+      obeyed-is (hitOf ten) t s,
+      ← takes-is (t .command) (mineOf t s) (accessOf (t .parameter)) (broadcastOf (t .parameter)),
+      ← may-offer (eqb (t .parameter) 0xD2) (eqb (s .number) 31),
+    )
+    (plain (s .locked) (lockable (t .parameter)) (eqb (t .parameter) 0xD2 && not (eqb (s .number) 31)) (isRight (rangeOf (t .parameter) (t .value))) (commandOf (t .command)) (eqb (hitOf ten) 0) (mineOf t s)
     (accessOf (t .parameter)) (broadcastOf (t .parameter)) (eqb (t .parameter) 0x96 && ltb (s .inputs) (byte0 (t .value)))
     (λ e. number-access (t .parameter) (and-eq-true-iff (eqb (t .parameter) 0x96) _ .0 e .0)) (cast-access (t .parameter)))
 
--- so an accepted telegram is done; of the others an obeyed one is a read, and shows
+-- so an accepted telegram is done; of the others one drops the offer, and an obeyed one is a read, and shows
 abbrev done : List ℕ → Deed
 done ten = doneBy (kindOf (fieldsOf ten .parameter)) (fieldsOf ten .value) (fieldsOf ten .word)
 
-pub deed-is : (ten : List ℕ) (s : Standing) → judgedOf ten s .deed
-    ≡ cond (accepted (s .number) (s .locked) ten) (done ten) (cond (isObeyed (judgedOf ten s .verdict)) (shownBy (fieldsOf ten .parameter)) Nothing)
-unfolding judgedOf deedOf
-deed-is ten s = rw (← accepted-is ten s) (go (verdictOf (hitOf ten) (fieldsOf ten) s))
+withdrawn-is : (ten : List ℕ) (s : Standing) → drops (judgedOf ten s .verdict) (fieldsOf ten .parameter) ≡ withdrawn (s .number) ten
+unfolding judgedOf withdrawn
+withdrawn-is ten s = drops-is (hitOf ten) (fieldsOf ten) s
+
+abbrev rest : List ℕ → Standing → Deed
+rest ten s = cond (withdrawn (s .number) ten) Withdraw (cond (isObeyed (judgedOf ten s .verdict)) (shownBy (fieldsOf ten .parameter)) Nothing)
+
+pub deed-is : (ten : List ℕ) (s : Standing) → judgedOf ten s .deed ≡ cond (accepted (s .number) (s .locked) ten) (done ten) (rest ten s)
+unfolding judgedOf deedOf refusedBy
+deed-is ten s = rw (← accepted-is ten s, ← withdrawn-is ten s) (go (verdictOf (hitOf ten) (fieldsOf ten) s))
   where
     c : Command
     c = commandOf (fieldsOf ten .command)
 
     go : (v : Verdict) → deedOf v c (kindOf (fieldsOf ten .parameter)) (fieldsOf ten)
-        ≡ cond (isObeyed v && changesOf c) (done ten) (cond (isObeyed v) (shownBy (fieldsOf ten .parameter)) Nothing)
+        ≡ cond (isObeyed v && changesOf c) (done ten) (cond (drops v (fieldsOf ten .parameter)) Withdraw (cond (isObeyed v) (shownBy (fieldsOf ten .parameter)) Nothing))
     go Obeyed = refl
     go Silent = refl
     go (Refused f) = refl
@@ -139,17 +156,21 @@ unfolding storedAfter storedBy restartsOf shownBy
 shown-none a st = either (λ d. storedAfter d st ≡ st) (eqb a 0xFA) (λ _. refl) (either (λ d. storedAfter d st ≡ st) (eqb a 0xFE) (λ _. refl) refl)
 
 stored-is : (ten : List ℕ) (s : Standing) (st : parts.Stored)
-    → storedAfter (judgedOf ten s .deed) st ≡ cond (accepted (s .number) (s .locked) ten) (storedAfter (done ten) st) st
+    → storedAfter (judgedOf ten s .deed) st
+    ≡ cond (accepted (s .number) (s .locked) ten) (storedAfter (done ten) st) (cond (withdrawn (s .number) ten) (withOffer st 0) st)
 unfolding storedAfter storedBy restartsOf
-stored-is ten s st = rw (deed-is ten s) (go (accepted (s .number) (s .locked) ten) (isObeyed (judgedOf ten s .verdict)))
+stored-is ten s st =
+    rw (deed-is ten s) (go (accepted (s .number) (s .locked) ten) (withdrawn (s .number) ten) (isObeyed (judgedOf ten s .verdict)))
   where
-    go : (x y : Bool) → storedAfter (cond x (done ten) (cond y (shownBy (fieldsOf ten .parameter)) Nothing)) st ≡ cond x (storedAfter (done ten) st) st
-    go true y = refl
-    go false true = shown-none (fieldsOf ten .parameter) st
-    go false false = refl
+    go : (x y z : Bool) → storedAfter (cond x (done ten) (cond y Withdraw (cond z (shownBy (fieldsOf ten .parameter)) Nothing))) st
+        ≡ cond x (storedAfter (done ten) st) (cond y (withOffer st 0) st)
+    go true y z = refl
+    go false true z = refl
+    go false false true = shown-none (fieldsOf ten .parameter) st
+    go false false false = refl
 
 -- ---- what an accepted telegram leaves in each part
-set-gives : (l : List ℕ) (q v r : ℕ) → r < length l → getD (set l q v) r 0 ≡ look (cond (eqb r q) (some v) none) (getD l r 0)
+pub set-gives : (l : List ℕ) (q v r : ℕ) → r < length l → getD (set l q v) r 0 ≡ look (cond (eqb r q) (some v) none) (getD l r 0)
 unfolding look
 set-gives l q v r h = go (eqb r q) refl
   where
@@ -158,7 +179,7 @@ set-gives l q v r h = go (eqb r q) refl
     go false e = getD-set-other l q r v 0 (eqb-false r q e)
 
 -- what holds of each of the four ways of a system command holds of the command
-system-way : (P : Deed → Type 0) (v : ℕ) → (v ≡ 7 → P Calibrate) → (v ≡ 8 → P Forget) → (v ≡ 9 → P Restart)
+pub system-way : (P : Deed → Type 0) (v : ℕ) → (v ≡ 7 → P Calibrate) → (v ≡ 8 → P Forget) → (v ≡ 9 → P Restart)
     → (eqb v 9 ≡ false → P (Reset v)) → P (systemOf v)
 unfolding systemOf
 system-way P v p q r s = go (eqb v 7) refl (eqb v 8) refl (eqb v 9) refl
@@ -181,10 +202,15 @@ pub record Becomes (st : parts.Stored) (g : Change) (x : parts.Stored) : Type 0 
   pub vals : (r : ℕ) → r < 39 → getD (x .values) r 0 ≡ look (g .gives r) (getD (st .values) r 0)
   pub force : x .number ≡ cond (g .restarts) (look (g .gives 0) (getD (st .values) 0 0)) (st .number)
   pub lock : x .unlocked ≡ look (g .opens) (st .unlocked)
+  pub offer : x .offer ≡ cond (g .restarts) 0 (look (g .offers) (st .offer))
 
 nothing-becomes : (st : parts.Stored) → Becomes st nothing st
 unfolding look
-nothing-becomes st = record { size = refl; vals = λ r lt. refl; force = refl; lock = refl }
+nothing-becomes st = record { size = refl; vals = λ r lt. refl; force = refl; lock = refl; offer = refl }
+
+dropping-becomes : (st : parts.Stored) → Becomes st dropping (withOffer st 0)
+unfolding look
+dropping-becomes st = record { size = refl; vals = λ r lt. refl; force = refl; lock = refl; offer = refl }
 
 module _ (v w : ℕ) (st : parts.Stored) (full : length (st .values) ≡ 39) where
   value-gives : (a i r : ℕ) → placeOf a ≡ At i → r < 39 → gives a v r ≡ cond (eqb r i) (some v) none
@@ -218,6 +244,11 @@ module _ (v w : ℕ) (st : parts.Stored) (full : length (st .values) ≡ 39) whe
       system-way (λ d. storedAfter d st .number ≡ cond (eqb v 9) (look (reset 0) (getD (st .values) 0 0)) (st .number)) v
       (λ e. rw e) (λ e. rw e) (λ e. rw e) (λ e. rw e)
 
+  system-offer : storedAfter (systemOf v) st .offer ≡ cond (eqb v 9) 0 (st .offer)
+  unfolding storedAfter storedBy restartsOf restartedStored
+  system-offer =
+      system-way (λ d. storedAfter d st .offer ≡ cond (eqb v 9) 0 (st .offer)) v (λ e. rw e) (λ e. rw e) (λ e. rw e) (λ e. rw e)
+
   pub done-becomes : (a : ℕ) → Becomes st (obeying a v) (storedAfter (doneBy (kindOf a) v w) st)
   unfolding storedAfter storedBy restartsOf doneBy look restartedStored
   done-becomes a = go (sortOf a)
@@ -230,6 +261,7 @@ module _ (v w : ℕ) (st : parts.Stored) (full : length (st .values) ≡ 39) whe
             vals = λ r lt. rw (value-gives a i r e lt) (set-gives (st .values) i v r (omega arith));
             force = rw (value-system a i e);
             lock = rw (value-interlock a i e);
+            offer = rw (value-system a i e, value-assignment a i e);
           }
       go (system e) =
           rw (e, system-kind)
@@ -238,29 +270,41 @@ module _ (v w : ℕ) (st : parts.Stored) (full : length (st .values) ≡ 39) whe
             vals = λ r lt. rw (system-gives r lt) (system-values r lt);
             force = rw (system-gives 0 (omega arith)) system-force;
             lock = system-way (λ d. storedAfter d st .unlocked ≡ st .unlocked) v (λ _. refl) (λ _. refl) (λ _. refl) (λ _. refl);
+            offer = system-offer;
           }
       go (interlock e) =
           rw (e, interlock-kind)
-          record { size = refl; vals = λ r lt. rw (none-gives 0xA8 r interlock-nowhere refl lt); force = refl; lock = refl }
-      go (other e p q) =
-          rw (other-still v w st a e p q)
-          record { size = refl; vals = λ r lt. rw (none-gives a r e p lt); force = rw p; lock = rw q }
+          record { size = refl; vals = λ r lt. rw (none-gives 0xA8 r interlock-nowhere refl lt); force = refl; lock = refl; offer = refl }
+      go (assignment e) =
+          rw (e, assignment-kind)
+          record { size = refl; vals = λ r lt. rw (none-gives 0xD2 r assignment-nowhere refl lt); force = refl; lock = refl; offer = refl }
+      go (other e p q o) =
+          rw (other-still v w st a e p q o)
+          record { size = refl; vals = λ r lt. rw (none-gives a r e p lt); force = rw p; lock = rw q; offer = rw (p, o) }
 
 -- ---- a telegram, by the number in force and the lock of the standing
 accepted-at : (ten : List ℕ) (s : Standing) (f : ℕ) (shut : Bool) → s .number ≡ f → s .locked ≡ shut
     → accepted (s .number) (s .locked) ten ≡ accepted f shut ten
 accepted-at ten s f shut p q = ap (λ (x : ℕ). accepted x (s .locked) ten) p ∙ ap (λ (x : Bool). accepted f x ten) q
 
+withdrawn-at : (ten : List ℕ) (s : Standing) (f : ℕ) → s .number ≡ f → withdrawn (s .number) ten ≡ withdrawn f ten
+withdrawn-at ten s f p = ap (λ (x : ℕ). withdrawn x ten) p
+
+-- what it changes
+abbrev pub changing : ℕ → Bool → List ℕ → Change
+changing f shut ten = cond (accepted f shut ten) (obeying (fieldsOf ten .parameter) (fieldsOf ten .value)) (cond (withdrawn f ten) dropping nothing)
+
 -- at what a head stores
 pub told-becomes : (ten : List ℕ) (s : Standing) (st : parts.Stored) (f : ℕ) (shut : Bool) → length (st .values) ≡ 39 → s .number ≡ f → s .locked ≡ shut
-    → Becomes st (cond (accepted f shut ten) (obeying (fieldsOf ten .parameter) (fieldsOf ten .value)) nothing) (storedAfter (judgedOf ten s .deed) st)
-told-becomes ten s st f shut full p q = rw (stored-is ten s st, accepted-at ten s f shut p q) (go (accepted f shut ten))
+    → Becomes st (changing f shut ten) (storedAfter (judgedOf ten s .deed) st)
+told-becomes ten s st f shut full p q = rw (stored-is ten s st, accepted-at ten s f shut p q, withdrawn-at ten s f p) (go (accepted f shut ten) (withdrawn f ten))
   where
-    go : (b : Bool)
-        → Becomes st (cond b (obeying (fieldsOf ten .parameter) (fieldsOf ten .value)) nothing)
-        (cond b (storedAfter (done ten) st) st)
-    go true = done-becomes (fieldsOf ten .value) (fieldsOf ten .word) st full (fieldsOf ten .parameter)
-    go false = nothing-becomes st
+    go : (b d : Bool)
+        → Becomes st (cond b (obeying (fieldsOf ten .parameter) (fieldsOf ten .value)) (cond d dropping nothing))
+        (cond b (storedAfter (done ten) st) (cond d (withOffer st 0) st))
+    go true d = done-becomes (fieldsOf ten .value) (fieldsOf ten .word) st full (fieldsOf ten .parameter)
+    go false true = dropping-becomes st
+    go false false = nothing-becomes st
 
 -- an accepted telegram restarts the head where it is A0h 9, and no other does
 done-restarts : (a v w : ℕ) → restartsOf (doneBy (kindOf a) v w) ≡ obeying a v .restarts
@@ -271,18 +315,21 @@ done-restarts a v w = go (sortOf a)
     go (value i e) = rw (value-kind a i e, value-system a i e)
     go (system e) = rw (e, system-kind) (system-way (λ d. restartsOf d ≡ eqb v 9) v (λ n. rw n) (λ n. rw n) (λ n. rw n) (λ n. sym n))
     go (interlock e) = rw (e, interlock-kind)
-    go (other e p q) = rw p (other-deed (λ d. restartsOf d ≡ false) v w a e p q refl refl refl refl refl)
+    go (assignment e) = rw (e, assignment-kind)
+    go (other e p q r) = rw p (other-deed (λ d. restartsOf d ≡ false) v w a e p q r refl refl refl refl refl)
 
 pub told-restarts : (ten : List ℕ) (s : Standing) (f : ℕ) (shut : Bool) → s .number ≡ f → s .locked ≡ shut
-    → restartsOf (judgedOf ten s .deed) ≡ cond (accepted f shut ten) (obeying (fieldsOf ten .parameter) (fieldsOf ten .value)) nothing .restarts
+    → restartsOf (judgedOf ten s .deed) ≡ changing f shut ten .restarts
 unfolding restartsOf shownBy
 told-restarts ten s f shut p q =
-    rw (deed-is ten s, accepted-at ten s f shut p q) (go (accepted f shut ten) (isObeyed (judgedOf ten s .verdict)))
+    rw (deed-is ten s, accepted-at ten s f shut p q, withdrawn-at ten s f p) (go (accepted f shut ten) (withdrawn f ten) (isObeyed (judgedOf ten s .verdict)))
   where
     a : ℕ
     a = fieldsOf ten .parameter
 
-    go : (x y : Bool) → restartsOf (cond x (done ten) (cond y (shownBy a) Nothing)) ≡ cond x (obeying a (fieldsOf ten .value)) nothing .restarts
-    go true y = done-restarts a (fieldsOf ten .value) (fieldsOf ten .word)
-    go false true = either (λ d. restartsOf d ≡ false) (eqb a 0xFA) (λ _. refl) (either (λ d. restartsOf d ≡ false) (eqb a 0xFE) (λ _. refl) refl)
-    go false false = refl
+    go : (x y z : Bool) → restartsOf (cond x (done ten) (cond y Withdraw (cond z (shownBy a) Nothing)))
+        ≡ cond x (obeying a (fieldsOf ten .value)) (cond y dropping nothing) .restarts
+    go true y z = done-restarts a (fieldsOf ten .value) (fieldsOf ten .word)
+    go false true z = refl
+    go false false true = either (λ d. restartsOf d ≡ false) (eqb a 0xFA) (λ _. refl) (either (λ d. restartsOf d ≡ false) (eqb a 0xFE) (λ _. refl) refl)
+    go false false false = refl

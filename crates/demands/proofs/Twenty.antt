@@ -9,7 +9,7 @@ use lib.ListN.{getD}
 use Rattle.rows.proofs.Laws.{node-limits, node-fits}
 use Rattle.state.specs.declared.parts.Head.{Head}
 use Rattle.state.specs.Wellformed.{wellformedOf}
-use Rattle.state.proofs.Laws.{reach-small, small-reach, stored-told, stored-holds, faults-told, faults-holds, measurement-told, measurement-holds, ear-told, ear-holds, told, holds}
+use Rattle.state.proofs.Laws.{reach-small, small-reach, stored-told, stored-holds, offer-told, offer-holds, faults-told, faults-holds, measurement-told, measurement-holds, ear-told, ear-holds, told, holds}
 use Rattle.head.specs.Calls.{factoryOf}
 use Rattle.line.specs.Round.{allFit}
 use Rattle.line.proofs.Laws.{fits-small, fits-eight}
@@ -20,11 +20,14 @@ passed : (h : Head) → wellformedOf h ≡ true → Formed h
 passed h e =
     let w = told h e in
     let s = stored-told (h .stored) (w .stored) in
+    let o = offer-told (h .stored .number) (h .stored .offer) (s .offer) in
     let f = faults-told (h .faults) (w .faults) in
     let g = measurement-told (h .measurement) (w .measurement) in
     record {
       values = s .values;
       number = node-limits (h .stored .number) (s .number);
+      offer = o .0;
+      offer-at = o .1;
       adopted = g .adopted;
       memory = f .memory;
       inputs = f .inputs;
@@ -41,7 +44,8 @@ passes : (h : Head) → Formed h → wellformedOf h ≡ true
 passes h f =
     holds h
     (record {
-      stored = stored-holds (h .stored) (record { values = f .values; number = node-fits (h .stored .number) (f .number .0) (f .number .1) });
+      stored = stored-holds (h .stored)
+          (record { values = f .values; number = node-fits (h .stored .number) (f .number .0) (f .number .1); offer = offer-holds _ _ (f .offer) (f .offer-at) });
       faults = faults-holds (h .faults) (record { memory = f .memory; inputs = f .inputs; damaged = f .damaged });
       measurement = measurement-holds (h .measurement)
           (record { m = small-reach _ (f .m); zero = small-reach _ (f .zero); start = small-reach _ (f .start); adopted = f .adopted; kept = f .kept });

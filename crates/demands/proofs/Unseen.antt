@@ -18,16 +18,13 @@ use Rattle.state.specs.Wellformed.{faultsFit, wellformedOf}
 use Rattle.effects.specs.Faults.{withHit, raisedOf, countedOf, complainedOf, restartedFaults, faultsBy}
 use Rattle.effects.specs.Restart.{restartedOf}
 use Rattle.reply.specs.declared.Said.{Said}
-use Rattle.head.specs.declared.hear.Gathered.{Gathered}
-use Rattle.head.specs.declared.hear.Stepped.{Stepped}
-use Rattle.head.specs.Hear.{standingOf, gatheredOf, restartsOf, affectedOf, toldOf, tellOf, withEar, stepBy, stepOf}
+use Rattle.head.specs.Hear.{standingOf, restartsOf, affectedOf, toldOf, tellOf, stepOf}
 use Rattle.head.specs.Moves.{withFaults}
-use Rattle.head.specs.Calls.{byteOf, byteSpaceOf}
-use Rattle.head.proofs.Passes.{unanswered}
 use Rattle.demands.specs.Run.{product}
 use Rattle.demands.specs.Unseen.{keeping, Alike, Unseen}
-use Rattle.demands.proofs.Every.{marked, deed-apart, deed-spares}
-use Rattle.demands.proofs.Whole.{reply-apart}
+use Rattle.demands.proofs.Telling.{marked, deed-apart, deed-spares}
+use Rattle.demands.proofs.Apart as apart
+use Rattle.demands.proofs.Apart.{reply-apart, Steps, hears, lays}
 
 -- ---- the errors after a telegram
 abbrev Same : Faults → Faults → Type 0
@@ -73,40 +70,24 @@ module _ (h : Head) (x : ℕ) where
       elim (restartsOf (j .deed)) as (λ b. Alike (cond b (restartedOf (affectedOf j other t)) (affectedOf j other t)) (cond b (restartedOf (affectedOf j h t)) (affectedOf j h t)))
       [ true ↦ ap restartedOf (affected-alike j t) | false ↦ affected-alike j t ]
 
-  -- what a byte gives: the same reply, and a head that is alike
-  abbrev Steps : Stepped → Stepped → Type 0
-  Steps s r = (s .replied ≡ r .replied) × (s .reply ≡ r .reply) × Alike (s .head) (r .head)
-
-  tells : (ten : List ℕ) (t : ℕ) → Steps (tellOf other ten t) (tellOf h ten t)
+  tells : (ten : List ℕ) (t : ℕ) → Steps Alike (tellOf other ten t) (tellOf h ten t)
   unfolding tellOf standingOf statusOf
   tells ten t =
       let j = judgedOf ten (standingOf h) in
-      let r = reply-apart h (h .ear) x j (statusOf h) in
+      let r = reply-apart h (h .ear) x (h .stored .offer) j (statusOf h) in
       (ap (λ (s : Said). s .replied) r, ap (λ (s : Said). s .reply) r, told-alike j t)
 
-  steps : (b t : ℕ) → Steps (stepOf other b t) (stepOf h b t)
-  unfolding stepOf
-  steps b t = go (gatheredOf (h .ear) b t)
-    where
-      go : (g : Gathered) → Steps (stepBy other g t) (stepBy h g t)
-      go g =
-          elim (g .whole) as (λ w. Steps (cond w (tellOf other (g .ten) t) (unanswered (withEar other (g .ear)))) (cond w (tellOf h (g .ten) t) (unanswered (withEar h (g .ear)))))
-          [ true ↦ tells (g .ten) t | false ↦ (refl, refl, refl) ]
+  steps : (b t : ℕ) → Steps Alike (stepOf other b t) (stepOf h b t)
+  steps = apart.steps Alike other h refl (λ e. refl) tells
 
-  -- ---- the byte call
-  hears : (b t n : ℕ) → let f = byteOf other b t n in let g = byteOf h b t n in (f .heard ≡ g .heard) × Alike (f .head) (g .head)
-  unfolding byteOf wellformedOf faultsFit
-  hears b t n = go (wellformedOf h) (ltb n 10) refl refl
-    where
-      go : (w r : Bool) → wellformedOf h ≡ w → ltb n 10 ≡ r
-          → (byteOf other b t n .heard ≡ byteOf h b t n .heard) × Alike (byteOf other b t n .head) (byteOf h b t n .head)
-      go true true p q = rw (p, q) (refl, refl)
-      go true false p q = let s = steps b t in rw (p, q, s .0) (refl, s .2)
-      go false r p q = rw p (refl, refl)
-
-  lays : (b t : ℕ) (space : List ℕ) → byteSpaceOf other b t space ≡ byteSpaceOf h b t space
-  unfolding byteSpaceOf wellformedOf faultsFit
-  lays b t space = let s = steps b t in rw (s .0, s .1)
+  same-well : wellformedOf other ≡ wellformedOf h
+  unfolding wellformedOf faultsFit
+  same-well = refl
 
 pub unseen : Unseen product
-unseen = record { heard = λ h x b t n. hears h x b t n .0; laid = lays; after = λ h x b t n. hears h x b t n .1 }
+unseen =
+    record {
+      heard = λ h x b t n. hears Alike (keeping h x) h refl (same-well h x) b t (steps h x b t) n .0;
+      laid = λ h x b t space. lays Alike (keeping h x) h refl (same-well h x) b t (steps h x b t) space;
+      after = λ h x b t n. hears Alike (keeping h x) h refl (same-well h x) b t (steps h x b t) n .1;
+    }

@@ -7,25 +7,17 @@ use mathlib.Core.List.{List, [], _∷_, _++_, append-assoc, append-nil}
 use native.Mathlib.Omega.{arith}
 use borrow.Author.Tests.{le-leb}
 use lib.ListN.{length, length-append}
-use Rattle.rows.specs.declared.kind.Kind.{Kind}
-use Rattle.rows.specs.declared.kind.Kind.the-variants.{Stored, SetPoint1, SetPoint2, ReadOnly, WriteOnly, Unknown}
-use Rattle.rows.specs.declared.kind.Shown.{Shown}
-use Rattle.rows.specs.declared.kind.Shown.the-variants.{Identification, Version, ErrorCount, ErrorAt, InputErrors, StatusWord, Differential, Pending, Position}
-use Rattle.judge.specs.declared.judged.Judged.{Judged}
-use Rattle.judge.specs.declared.verdict.Verdict.{Verdict}
-use Rattle.judge.specs.declared.verdict.Verdict.the-variants.{Obeyed, Silent, Refused}
 use Rattle.judge.specs.Judged.{judgedOf}
 use Rattle.state.specs.declared.parts.Head.{Head}
 use Rattle.state.specs.declared.parts.Ear.{Ear}
 use Rattle.state.specs.Status.{statusOf}
 use Rattle.head.specs.declared.hear.Stepped.{Stepped}
-use Rattle.reply.specs.Reply.{showsOf, readOf, answerOf, valueReply, replyBy, replyOf}
 use Rattle.head.specs.Hear.{standingOf, toldOf, tellOf, withEar, stepOf}
 use Rattle.line.specs.Round.{saidBy}
 use Rattle.demands.specs.Past as past
 use Rattle.demands.specs.Past.{since, gather}
 use Rattle.demands.specs.Demand3.{Steady}
-use Rattle.demands.specs.Unseen.{keeping}
+use Rattle.demands.proofs.Apart.{reply-apart}
 use Rattle.demands.proofs.Ear.{Gathered, ear-short, ear-whole, ear-alone}
 
 -- the head after bytes, byte i at the time τ i, and its replies
@@ -37,46 +29,10 @@ abbrev pub said : List ℕ → (ℕ → ℕ) → ℕ → Head → List (List ℕ
 said [] τ i h = []
 said (b ∷ bs) τ i h = saidBy (stepOf h b (τ i)) ++ said bs τ (suc i) (stepOf h b (τ i) .head)
 
--- ---- a reply does not look at the bytes gathered, nor at what is kept of the last damaged telegram
-module _ (h : Head) (e : Ear) (x : ℕ) where
-  abbrev other : Head
-  other = keeping (withEar h e) x
-
-  shows-apart : (s : Shown) (v : ℕ) → showsOf s other v ≡ showsOf s h v
-  unfolding statusOf
-  shows-apart Identification v = refl
-  shows-apart Version v = refl
-  shows-apart ErrorCount v = refl
-  shows-apart (ErrorAt i) v = refl
-  shows-apart InputErrors v = refl
-  shows-apart StatusWord v = refl
-  shows-apart Differential v = refl
-  shows-apart Pending v = refl
-  shows-apart Position v = refl
-
-  read-apart : (k : Kind) (v : ℕ) → readOf k other v ≡ readOf k h v
-  unfolding readOf
-  read-apart (Stored i) v = refl
-  read-apart SetPoint1 v = refl
-  read-apart SetPoint2 v = refl
-  read-apart (ReadOnly s) v = shows-apart s v
-  read-apart (WriteOnly o) v = refl
-  read-apart Unknown v = refl
-
-  by-apart : (v : Verdict) (j : Judged) (w : ℕ) → replyBy v j other w ≡ replyBy v j h w
-  unfolding valueReply answerOf
-  by-apart Obeyed j w = rw (read-apart (j .kind) (j .telegram .value))
-  by-apart Silent j w = refl
-  by-apart (Refused f) j w = refl
-
-  pub reply-apart : (j : Judged) (w : ℕ) → replyOf j other w ≡ replyOf j h w
-  unfolding replyOf
-  reply-apart j w = by-apart (j .verdict) j w
-
--- so a telegram does not look at the bytes gathered
+-- a telegram does not look at the bytes gathered
 pub tell-apart : (h : Head) (e : Ear) (ten : List ℕ) (t : ℕ) → tellOf (withEar h e) ten t ≡ tellOf h ten t
 unfolding tellOf standingOf toldOf statusOf
-tell-apart h e ten t = rw (reply-apart h e (h .faults .hit) (judgedOf ten (standingOf h)) (statusOf h))
+tell-apart h e ten t = rw (reply-apart h e (h .faults .hit) (h .stored .offer) (judgedOf ten (standingOf h)) (statusOf h))
 
 -- ---- bytes in time
 gather-on : (g : past.Ear) (b t : ℕ) → since t (g .last) ≤ 10 → gather g b t ≡ g .bytes ++ (b ∷ [])

@@ -6,6 +6,7 @@ use mathlib.Core.Bool.{true, false}
 use mathlib.Core.List.{List, [], _∷_, _++_}
 use mathlib.Core.Option.{Option, some}
 use native.Mathlib.Omega.{arith}
+use lib.IntN.{pos, natAbs}
 use lib.ListN.{length, replicate, take, drop, getD, set}
 use Rattle.judge.specs.declared.judged.Judged.{Judged}
 use Rattle.judge.specs.Judged.{judgedOf}
@@ -24,7 +25,7 @@ use Rattle.head.specs.declared.calls.Heard.the-variants as heard
 use Rattle.head.specs.declared.calls.Fed.{Fed}
 use Rattle.line.specs.declared.calls.Line.{Line}
 use Rattle.line.specs.Calls as line
-use Rattle.demands.specs.Calls.{keys, named}
+use Rattle.demands.specs.Calls.{measure, keys}
 use Rattle.demands.specs.Cases.{split}
 use Rattle.demands.specs.Run.{OnLine, System, product}
 use Rattle.demands.specs.Lines.{Fits, Only}
@@ -54,7 +55,7 @@ pressed = like (new .stored) (new .faults) (new .monitor) 1
 abbrev watched : Head
 watched =
     let s = new .stored in
-    like (record { values = set (s .values) 2 1; number = s .number; baud = s .baud; unlocked = s .unlocked }) (new .faults)
+    like (record { values = set (s .values) 2 1; number = s .number; baud = s .baud; offer = s .offer; unlocked = s .unlocked }) (new .faults)
     (record { running = true; since = 0 }) 0
 
 abbrev gathered : Head → ℕ → Head
@@ -200,14 +201,15 @@ module _ (m : System) where
   first-too-fails : FirstToo m → Demand2 m → ⊥
   unfolding computing
   first-too-fails e d =
-      let t = d .line-asks two 1 (keys 2) two-fits (omega arith) in
-      let z : _≡_ {A = ℕ} 2 0 = ap (λ (h : Head). h .keys) (rw (e (keys 2) two 1) at (t .others 0 (λ i. omega arith))) in
+      let a = measure (pos 2) in
+      let t = d .line-asks two 1 a two-fits (omega arith) .0 in
+      let z : _≡_ {A = ℕ} 2 0 = ap (λ (h : Head). natAbs (h .measurement .m)) (rw (e a two 1) at (t .others 0 (λ i. omega arith))) in
       omega arith
 
   four-for-five-fails : FourForFive m → Demand1 m → ⊥
   unfolding computing
   four-for-five-fails e d =
-      let k : _≡_ {A = Option ℕ} (some 4) (some 5) = rw (e two 0) at (d .line-number (named 0 (keys 8)) two) in
+      let k : _≡_ {A = Option ℕ} (some 4) (some 5) = rw (e two 0 10) at (d .line-number (keys 0 8 10) two) in
       let z : _≡_ {A = ℕ} 4 5 = cc in
       omega arith
 

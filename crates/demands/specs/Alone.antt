@@ -1,13 +1,17 @@
--- What power, a tick, a measurement and a key state do to a head alone, in the sentences of document 01: h is the head before the call, k the
--- head after it. Each part of a head has its sentence, that it is as it was among them.
+-- What power, a tick, a measurement and a key state do to a head alone, in the sentences of document 01 and of document 02, request (ii): h is the head
+-- before the call, k the head after it. Each part of a head has its sentence, that it is as it was among them.
 -- Assumes nothing.
 use Prim.Native.Nat.{ℕ, _*_, _/_, _%_, _≤_}
 use mathlib.Core.Path.{_≡_}
 use mathlib.Core.Bool.{Bool, true, false, cond, not, _&&_, _||_}
+use mathlib.Core.Logic.{_≢_}
 use mathlib.Core.List.{List, [], _∷_, _++_}
 use lib.Dec.{leb, ltb, eqb}
 use lib.IntN.{ℤ, pos}
 use lib.ListN.{length, take, drop}
+use Rattle.wire.specs.declared.telegram.Telegram.{Telegram}
+use Rattle.wire.specs.Check.{hitOf}
+use Rattle.wire.specs.Telegram.{fieldsOf}
 use Rattle.state.specs.declared.parts.Head.{Head}
 use Rattle.state.specs.declared.parts.ErrorList.{ErrorList}
 use Rattle.state.specs.Settings.{valueAt, nodePlace, baudPlace, timeoutPlace, calibrationKeyPlace, calibrationPlace, incrementalKeyPlace}
@@ -45,6 +49,8 @@ pub record Restarted (h k : Head) : Type 0 where
   -- takes 00h and 01h into force
   pub number : k .stored .number ≡ setting h nodePlace
   pub baud : k .stored .baud ≡ setting h baudPlace
+  -- drops an offer (document 02, request (ii))
+  pub offer : k .stored .offer ≡ 0
   -- clears everything else: set points 0 and invalid, taken control word 0, static bit
   pub first : k .targets .first ≡ 0
   pub valid1 : k .targets .valid1 ≡ false
@@ -119,10 +125,15 @@ newly weight h state = eqb (state / weight % 2) 1 && eqb (h .keys / weight % 2) 
 abbrev pub calibrates : Head → ℕ → Bool
 calibrates h state = newly 1 h state && (eqb (h .faults .pending) 0 && eqb (setting h calibrationKeyPlace) 1)
 
--- up newly pressed switches incremental if 35h is 1
+-- up newly pressed adopts the number that is offered, if one is
+abbrev pub adopts : Head → ℕ → Bool
+adopts h state = newly 4 h state && not (eqb (h .stored .offer) 0)
+
+-- else it switches incremental if 35h is 1
 abbrev pub switches : Head → ℕ → Bool
 switches h state = newly 4 h state && eqb (setting h incrementalKeyPlace) 1
 
+-- a key state that adopts no number
 pub record Keyed (h k : Head) (state : ℕ) : Type 0 where
   pub keys : k .keys ≡ state
   pub pending : k .faults .pending ≡ cond (newly 1 h state) 0 (h .faults .pending)
@@ -143,6 +154,36 @@ pub record Keyed (h k : Head) (state : ℕ) : Type 0 where
   pub targets : k .targets ≡ h .targets
   pub monitor : k .monitor ≡ h .monitor
   pub ear : k .ear ≡ h .ear
+
+-- one that does: the head j stands as left has made it, which is taken before up, with the number in 00h, whatever the interlock; it restarts last
+pub record Adopting (h j : Head) (state : ℕ) : Type 0 where
+  pub node : setting j nodePlace ≡ h .stored .offer
+  pub values : (r : ℕ) → r ≢ nodePlace → setting j r ≡ setting h r
+  pub unlocked : j .stored .unlocked ≡ h .stored .unlocked
+  pub zero : j .measurement .zero ≡ cond (calibrates h state) (h .measurement .m) (h .measurement .zero)
+  pub adopted : j .measurement .adopted ≡ cond (calibrates h state) (setting h calibrationPlace) (h .measurement .adopted)
+  pub m : j .measurement .m ≡ h .measurement .m
+  pub memory : j .faults .memory ≡ h .faults .memory
+
+pub record Adopted (h k : Head) (state : ℕ) : Type 0 where
+  pub before : Head
+  pub adopting : Adopting h before state
+  pub restarted : Restarted before k
+
+-- what it sends: the reply x of a write, with node 31, parameter D2h, the new number as data, and this status word
+pub record Announces (x : Telegram) (number status : ℕ) : Type 0 where
+  pub command : x .command ≡ 1
+  pub node : x .node ≡ 31
+  pub parameter : x .parameter ≡ 0xD2
+  pub word : x .word ≡ status
+  pub value : x .value ≡ number
+
+-- it stands in the first ten bytes of the space and passes its check, with the status word of before the call; the rest is unchanged
+pub record Announced (h : Head) (before after : List ℕ) : Type 0 where
+  pub long : length after ≡ length before
+  pub rest : drop 10 after ≡ drop 10 before
+  pub passes : hitOf (take 10 after) ≡ 0
+  pub fields : Announces (fieldsOf (take 10 after)) (h .stored .offer) (statusOf h)
 
 -- ---- a new head is as after a restart, its error memory empty: interlock closed, m, the zero and the adopted value 0, and the delivery values,
 -- of which that of 00h is the number given

@@ -1,8 +1,8 @@
 -- The status word, bit by bit (document 01, "Position and status"), of every head.
 -- Assumes nothing.
-use Prim.Native.Nat.{ℕ}
+use Prim.Native.Nat.{ℕ, _<_}
 use mathlib.Core.Path.{_≡_}
-use mathlib.Core.Bool.{Bool, cond, not, _&&_}
+use mathlib.Core.Bool.{Bool, false, cond, not, _&&_}
 use lib.Dec.{leb, eqb}
 use lib.IntN.{ℤ}
 use lib.Signed.{ltZ}
@@ -41,6 +41,10 @@ pub record Bits (h : Head) : Type 0 where
   pub bit8 : bitSet (statusOf h) 8 ≡ h .measurement .frozen
   pub bit9 : bitSet (statusOf h) 9 ≡ h .measurement .incremental
   pub bit10 : bitSet (statusOf h) 10 ≡ h .targets .valid2
+  -- all else 0
+  pub bit11 : bitSet (statusOf h) 11 ≡ false
+  pub bit12 : bitSet (statusOf h) 12 ≡ false
+  pub sixteen : statusOf h < 65536
   -- keys: left, star, up
   pub bit13 : bitSet (statusOf h) 13 ≡ bitSet (h .keys) 0
   pub bit14 : bitSet (statusOf h) 14 ≡ bitSet (h .keys) 1

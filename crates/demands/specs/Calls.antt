@@ -4,18 +4,19 @@ use Prim.Native.Nat.{ℕ, _<_}
 use mathlib.Core.List.{List, [], _∷_}
 use lib.IntN.{ℤ}
 
--- what is asked of a head by its number: a measurement, a key state, power
+-- what is asked of a head by its number, with no space lent: a measurement, power
 pub data Ask : Type 0 where
   measure : ℤ → Ask
-  keys : ℕ → Ask
   power : Ask
 
--- grow by a node number; a byte at a time, with so much space lent; a tick; a call that names a head
+-- grow by a node number; a byte at a time, with so much space lent; a tick; a call that names a head; a key state of the head that is named, with so
+-- much space lent
 pub data Call : Type 0 where
   newHead : ℕ → Call
   byte : ℕ → ℕ → ℕ → Call
   tick : ℕ → Call
   named : ℕ → Ask → Call
+  keys : ℕ → ℕ → ℕ → Call
 
 -- calls in the order of time: the last stands last
 infixl 60 _▸_
@@ -29,6 +30,7 @@ IsByte (newHead node) = Unit {0}
 IsByte (byte b t s) = b < 256
 IsByte (tick t) = Unit {0}
 IsByte (named j a) = Unit {0}
+IsByte (keys j s n) = Unit {0}
 
 abbrev pub Bytes : Calls → Type 0
 Bytes start = Unit {0}

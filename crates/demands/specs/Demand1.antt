@@ -25,7 +25,7 @@ use Rattle.head.specs.Calls.{factoryOf}
 use Rattle.head.specs.Outcome as alone
 use Rattle.line.specs.declared.calls.Line.{Line}
 use Rattle.line.specs.Calls.{fitsOf}
-use Rattle.demands.specs.Calls.{Call, newHead, byte, tick, named}
+use Rattle.demands.specs.Calls.{Call, newHead, byte, tick, named, keys}
 use Rattle.demands.specs.Twenty.{Twenty}
 use Rattle.demands.specs.Run.{OnHead, OnLine, System, aloneOf, after}
 
@@ -42,11 +42,10 @@ abbrev pub first : List Row → Option ℕ
 first [] = none
 first (r ∷ rs) = cond (r .holds) (some (r .number)) (first rs)
 
--- what a measurement, a key state, a tick and power are refused for on their own, on a head alone and on a line
+-- what a measurement, a tick and power are refused for on their own, on a head alone and on a line
 abbrev pub ownRows : alone.Ask → List Row
 ownRows (alone.tick t) = []
 ownRows (alone.measure m) = row 4 (not (leZ (minus 2500000) m && leZ m (pos 2500000))) ∷ []
-ownRows (alone.keys s) = row 5 (ltb 7 s) ∷ []
 ownRows alone.power = []
 
 abbrev pub nodeRow : ℕ → Row
@@ -55,6 +54,10 @@ nodeRow node = row 1 (not (leb 1 node && leb node 127))
 abbrev pub spaceRow : ℕ → Row
 spaceRow s = row 6 (ltb s 10)
 
+-- a key state, with so much space lent: 6 after 5
+abbrev pub keysRows : ℕ → ℕ → List Row
+keysRows s n = row 5 (ltb 7 s) ∷ spaceRow n ∷ []
+
 -- a call that names a head, and one on a head alone, with the rows of its own
 abbrev pub namedRows : Line → ℕ → List Row → List Row
 namedRows l j own = row 20 (not (fitsOf l)) ∷ row 3 (leb (l .count) j) ∷ own
@@ -62,16 +65,18 @@ namedRows l j own = row 20 (not (fitsOf l)) ∷ row 3 (leb (l .count) j) ∷ own
 abbrev pub headRows : Head → List Row → List Row
 headRows h own = row 20 (not (wellformedOf h)) ∷ own
 
--- 20 goes before all others, 2 before 1, and 3 before 4 and 5
+-- 20 goes before all others, 2 before 1, and 3 before 4, 5 and 6
 abbrev pub rowsFor : Call → Line → List Row
 rowsFor (newHead node) l = row 20 (not (fitsOf l)) ∷ row 2 (leb 8 (l .count)) ∷ nodeRow node ∷ []
 rowsFor (byte b t s) l = row 20 (not (fitsOf l)) ∷ spaceRow s ∷ []
 rowsFor (tick t) l = row 20 (not (fitsOf l)) ∷ ownRows (alone.tick t)
 rowsFor (named j a) l = namedRows l j (ownRows (aloneOf a))
+rowsFor (keys j s n) l = namedRows l j (keysRows s n)
 
 -- the same for a head alone
 abbrev pub rowsAlone : alone.Call → Head → List Row
 rowsAlone (alone.byte b t space) h = headRows h (spaceRow (length space) ∷ [])
+rowsAlone (alone.keys s space) h = headRows h (keysRows s (length space))
 rowsAlone (alone.asked a) h = headRows h (ownRows a)
 
 -- ---- the number that a call returns
@@ -94,18 +99,22 @@ refusedAs m (newHead node) l = ofAnswer (m .grow l node .answer)
 refusedAs m (byte b t s) l = ofHeard (m .byte l b t s .heard)
 refusedAs m (tick t) l = ofAnswer (m .tick l t .answer)
 refusedAs m (named j a) l = ofAnswer (m .ask a l j .answer)
+refusedAs m (keys j s n) l = ofHeard (m .keys l j s n .heard)
 
 abbrev pub refusedAlone : OnHead → alone.Call → Head → Option ℕ
 refusedAlone m (alone.byte b t space) h = ofHeard (m .byte h b t (length space) .heard)
+refusedAlone m (alone.keys s space) h = ofHeard (m .keys h s (length space) .heard)
 refusedAlone m (alone.asked a) h = ofAnswer (m .ask a h .answer)
 
 -- the head, and the lent space, after a call on a head alone; what lends no space leaves none
 abbrev pub headAfter : OnHead → alone.Call → Head → Head
 headAfter m (alone.byte b t space) h = m .byte h b t (length space) .head
+headAfter m (alone.keys s space) h = m .keys h s (length space) .head
 headAfter m (alone.asked a) h = m .ask a h .head
 
 abbrev pub spaceAfter : OnHead → alone.Call → Head → List ℕ
 spaceAfter m (alone.byte b t space) h = m .space h b t space
+spaceAfter m (alone.keys s space) h = m .keySpace h s space
 spaceAfter m (alone.asked a) h = []
 
 -- the number in force and 00h, which stands at place 0
@@ -130,5 +139,7 @@ pub record Demand1 (m : System) : Type 0 where
   pub line-same : (c : Call) (l : Line) (n : ℕ) → refusedAs (m .onLine) c l ≡ some n → after (m .onLine) c l ≡ l
   pub space-same : (l : Line) (b t : ℕ) (space : List ℕ) (n : ℕ)
       → refusedAs (m .onLine) (byte b t (length space)) l ≡ some n → m .onLine .space l b t space ≡ space
+  pub keys-same : (l : Line) (j s : ℕ) (space : List ℕ) (n : ℕ)
+      → refusedAs (m .onLine) (keys j s (length space)) l ≡ some n → m .onLine .keySpace l j s space ≡ space
   pub head-same : (c : alone.Call) (h : Head) (n : ℕ) → refusedAlone (m .onHead) c h ≡ some n
       → (headAfter (m .onHead) c h ≡ h) × (spaceAfter (m .onHead) c h ≡ alone.lentBy c)

@@ -30,7 +30,7 @@ use Rattle.line.specs.declared.calls.Line.{Line}
 use Rattle.line.specs.Calls.{headAt}
 use Rattle.demands.specs.Calls.{Ask}
 use Rattle.demands.specs.Run.{System, aloneOf}
-use Rattle.demands.specs.Alone.{Taken, entries, entered, Restarted, Ticked, Measured, Keyed, New}
+use Rattle.demands.specs.Alone.{Taken, entries, entered, Restarted, Ticked, Measured, adopts, Keyed, Adopted, Announced, New}
 use Rattle.demands.specs.Every.{Every}
 use Rattle.demands.specs.Bits.{Bits}
 use Rattle.demands.specs.Lines.{Fits, heardAlone, allReplies, Only, ToOne, Grown}
@@ -72,7 +72,16 @@ pub record Demand2 (m : System) : Type 0 where
   pub powers : (h : Head) → m .onHead .ask alone.power h .answer ≡ Done → Restarted h (m .onHead .ask alone.power h .head)
   pub ticks : (h : Head) (t : ℕ) → m .onHead .ask (alone.tick t) h .answer ≡ Done → Ticked h (m .onHead .ask (alone.tick t) h .head) t
   pub measures : (h : Head) (x : ℤ) → m .onHead .ask (alone.measure x) h .answer ≡ Done → Measured h (m .onHead .ask (alone.measure x) h .head) x
-  pub presses : (h : Head) (state : ℕ) → m .onHead .ask (alone.keys state) h .answer ≡ Done → Keyed h (m .onHead .ask (alone.keys state) h .head) state
+  -- a key state that adopts no number, with the space lent: no reply, and no byte of the space changed
+  pub presses : (h : Head) (state : ℕ) (space : List ℕ) → Taken h space → state ≤ 7 → adopts h state ≡ false
+      → Keyed h (m .onHead .keys h state (length space) .head) state
+      × (m .onHead .keys h state (length space) .heard ≡ heard.Replies 0)
+      × (m .onHead .keySpace h state space ≡ space)
+  -- one that does: it is told in the first ten bytes, with the status word of before the call, and the rest is unchanged
+  pub adopting : (h : Head) (state : ℕ) (space : List ℕ) → Taken h space → state ≤ 7 → adopts h state ≡ true
+      → Adopted h (m .onHead .keys h state (length space) .head) state
+      × (m .onHead .keys h state (length space) .heard ≡ heard.Replies 1)
+      × Announced h space (m .onHead .keySpace h state space)
   -- what the last damaged telegram was hit by: what the head keeps of it
   pub shows : (h : Head) → wellformedOf h ≡ true → m .onHead .hit h ≡ hit.Bits (h .faults .hit)
   -- an error list with one code more: of at most ten, in ten places
@@ -97,6 +106,12 @@ pub record Demand2 (m : System) : Type 0 where
       → ((k : ℕ) → k < l .count → headAt (m .onLine .tick l t .line) k ≡ m .onHead .ask (alone.tick t) (headAt l k) .head)
       × (m .onLine .tick l t .answer ≡ Done)
       × (m .onLine .tick l t .line .count ≡ l .count)
-  pub line-asks : (l : Line) (i : ℕ) (a : Ask) → Fits l → i < l .count → ToOne l i (m .onLine .ask a l i) (m .onHead .ask (aloneOf a) (headAt l i))
+  pub line-asks : (l : Line) (i : ℕ) (a : Ask) → Fits l → i < l .count
+      → ToOne l i (m .onLine .ask a l i .line) (m .onHead .ask (aloneOf a) (headAt l i) .head)
+      × (m .onLine .ask a l i .answer ≡ m .onHead .ask (aloneOf a) (headAt l i) .answer)
+  pub line-presses : (l : Line) (i s : ℕ) (space : List ℕ) → Fits l → i < l .count
+      → ToOne l i (m .onLine .keys l i s (length space) .line) (m .onHead .keys (headAt l i) s (length space) .head)
+      × (m .onLine .keys l i s (length space) .heard ≡ m .onHead .keys (headAt l i) s (length space) .heard)
+      × (m .onLine .keySpace l i s space ≡ m .onHead .keySpace (headAt l i) s space)
   pub line-grows : (l : Line) (node : ℕ) → Fits l → l .count < 8 → Grown l (m .onLine .grow l node) (m .onHead .make node)
   pub line-shows : (l : Line) (i : ℕ) → Fits l → i < l .count → m .onLine .hit l i ≡ m .onHead .hit (headAt l i)

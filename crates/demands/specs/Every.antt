@@ -3,7 +3,7 @@
 -- Assumes nothing.
 use Prim.Native.Nat.{ℕ, _+_, _<_}
 use mathlib.Core.Path.{_≡_}
-use mathlib.Core.Bool.{Bool, true, cond, not, _&&_}
+use mathlib.Core.Bool.{Bool, true, false, cond, not, _&&_}
 use mathlib.Core.Logic.{_≢_}
 use mathlib.Core.List.{List}
 use lib.Dec.{ltb, eqb}
@@ -22,8 +22,9 @@ use Rattle.state.specs.Errors.{rememberedOf}
 use Rattle.state.specs.Status.{statusOf}
 use Rattle.head.specs.declared.calls.Heard.the-variants as heard
 use Rattle.head.specs.Hear.{standingOf, gatheredOf}
+use Rattle.demands.specs.Past.{accepted}
 use Rattle.demands.specs.Run.{System}
-use Rattle.demands.specs.Alone.{Taken}
+use Rattle.demands.specs.Alone.{Taken, setting}
 
 -- the reply x to the telegram t copies command and node, and has this status word in the control word's place
 pub record Copies (t x : Telegram) (status : ℕ) : Type 0 where
@@ -64,9 +65,47 @@ pub record Damaged (h k : Head) (x : ℕ) : Type 0 where
   pub targets : k .targets ≡ h .targets
   pub keys : k .keys ≡ h .keys
 
+-- a head after a sound telegram, heard at this time, that does nothing to it, but that this number is offered then. (What the ear holds past its count,
+-- and when the last byte came, cannot be seen where none is gathered.)
+pub record Passed (h k : Head) (time remembered : ℕ) : Type 0 where
+  pub values : k .stored .values ≡ h .stored .values
+  pub number : k .stored .number ≡ h .stored .number
+  pub baud : k .stored .baud ≡ h .stored .baud
+  pub unlocked : k .stored .unlocked ≡ h .stored .unlocked
+  pub offer : k .stored .offer ≡ remembered
+  pub memory : k .faults .memory ≡ h .faults .memory
+  pub inputs : k .faults .inputs ≡ h .faults .inputs
+  pub pending : k .faults .pending ≡ h .faults .pending
+  pub hit : k .faults .hit ≡ h .faults .hit
+  pub damaged : k .faults .damaged ≡ 0
+  pub measurement : k .measurement ≡ h .measurement
+  pub targets : k .targets ≡ h .targets
+  pub monitor : k .monitor ≡ record { running = true; since = time }
+  pub gathered : k .ear .count ≡ 0
+  pub keys : k .keys ≡ h .keys
+
+-- a head after a telegram that it answered with an error of this code: it is entered, and but for the error 0080h, its list and count (Damaged), the
+-- monitor, the bytes gathered and an offer that is dropped (AutoId) all is as it was
+pub record Complained (h k : Head) (hit code : ℕ) : Type 0 where
+  pub inputs : k .faults .inputs ≡ rememberedOf (h .faults .inputs) code
+  pub memory : hit ≡ 0 → k .faults .memory ≡ h .faults .memory
+  pub pending : hit ≡ 0 → k .faults .pending ≡ h .faults .pending
+  pub values : k .stored .values ≡ h .stored .values
+  pub number : k .stored .number ≡ h .stored .number
+  pub baud : k .stored .baud ≡ h .stored .baud
+  pub unlocked : k .stored .unlocked ≡ h .stored .unlocked
+  pub measurement : k .measurement ≡ h .measurement
+  pub targets : k .targets ≡ h .targets
+  pub gathered : k .ear .count ≡ 0
+  pub keys : k .keys ≡ h .keys
+
 -- a telegram that is this head's to answer: the node byte is the number in force, and the command is not 02h
 abbrev pub mine : Telegram → Head → Bool
 mine t h = eqb (t .node) (h .stored .number) && not (eqb (t .command) 2)
+
+-- 0Eh, at place 14, is 1 and the interlock closed
+abbrev pub locked : Head → Bool
+locked h = eqb (setting h 14) 1 && not (h .stored .unlocked)
 
 pub record Every (m : System) : Type 0 where
   pub copies : (h : Head) (b t : ℕ) (space : List ℕ) → Taken h space → gatheredOf (h .ear) b t .whole ≡ true
@@ -103,6 +142,35 @@ pub record Every (m : System) : Type 0 where
   pub complains : (h : Head) (b t : ℕ) (space : List ℕ) → Taken h space → gatheredOf (h .ear) b t .whole ≡ true
       → (f : Fault) → judgedOf (gatheredOf (h .ear) b t .ten) (standingOf h) .verdict ≡ Refused f
       → m .onHead .byte h b t (length space) .head .faults .inputs ≡ rememberedOf (h .faults .inputs) (codeOf f)
+  -- whatever is judged: a reply with FDh in the parameter's place, where FDh was not asked for, is an error's; it enters the input list with the code that
+  -- it tells, and the telegram changes only what document 01 lists
+  pub errs : (h : Head) (b t : ℕ) (space : List ℕ) → Taken h space → gatheredOf (h .ear) b t .whole ≡ true
+      → let ten = gatheredOf (h .ear) b t .ten in
+      let x = fieldsOf (take 10 (m .onHead .space h b t space)) in
+      m .onHead .byte h b t (length space) .heard ≡ heard.Replies 1 → x .parameter ≡ 0xFD → fieldsOf ten .parameter ≢ 0xFD
+      → Complained h (m .onHead .byte h b t (length space) .head) (hitOf ten) (x .value)
+  -- a sound telegram for another head is met with silence, and does nothing
+  pub passes : (h : Head) (b t : ℕ) (space : List ℕ) → Taken h space → gatheredOf (h .ear) b t .whole ≡ true
+      → let ten = gatheredOf (h .ear) b t .ten in
+      hitOf ten ≡ 0 → fieldsOf ten .command ≢ 2 → fieldsOf ten .node ≢ h .stored .number
+      → (m .onHead .byte h b t (length space) .heard ≡ heard.Replies 0)
+      × (m .onHead .space h b t space ≡ space)
+      × Passed h (m .onHead .byte h b t (length space) .head) t (h .stored .offer)
+  -- a sound broadcast that is not accepted, by the account's own tests (Past), is met with silence, and does nothing
+  pub uncast : (h : Head) (b t : ℕ) (space : List ℕ) → Taken h space → gatheredOf (h .ear) b t .whole ≡ true
+      → let ten = gatheredOf (h .ear) b t .ten in
+      hitOf ten ≡ 0 → fieldsOf ten .command ≡ 2 → accepted (h .stored .number) (locked h) ten ≡ false
+      → (m .onHead .byte h b t (length space) .heard ≡ heard.Replies 0)
+      × (m .onHead .space h b t space ≡ space)
+      × Passed h (m .onHead .byte h b t (length space) .head) t (h .stored .offer)
+  -- a write that is accepted, by the account's own tests, is answered, but for D2h; with the value written, but for FFh
+  pub written : (h : Head) (b t : ℕ) (space : List ℕ) → Taken h space → gatheredOf (h .ear) b t .whole ≡ true
+      → let ten = gatheredOf (h .ear) b t .ten in
+      let x = fieldsOf (take 10 (m .onHead .space h b t space)) in
+      accepted (h .stored .number) (locked h) ten ≡ true → fieldsOf ten .command ≡ 1 → fieldsOf ten .parameter ≢ 0xD2
+      → (m .onHead .byte h b t (length space) .heard ≡ heard.Replies 1)
+      × (x .parameter ≡ fieldsOf ten .parameter)
+      × (fieldsOf ten .parameter ≢ 0xFF → fieldsOf ten .value < 4294967296 → x .value ≡ fieldsOf ten .value)
   -- only a restart takes 00h and 01h into force: no write of them, and no reset
   pub in-force : (h : Head) (b t : ℕ) (space : List ℕ) → Taken h space → gatheredOf (h .ear) b t .whole ≡ true
       → judgedOf (gatheredOf (h .ear) b t .ten) (standingOf h) .deed ≢ Restart

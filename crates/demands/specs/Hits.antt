@@ -15,7 +15,7 @@ use Rattle.wire.specs.Check.{xorAll, hitOf}
 use Rattle.wire.specs.Telegram.{bytesOf}
 use Rattle.head.specs.declared.refusal.Refusal.the-variants.{NoHead}
 use Rattle.head.specs.declared.calls.Hit.the-variants.{Bits, Refused}
-use Rattle.demands.specs.Calls.{Call, newHead, byte, tick, named, measure, keys, power, Calls, start, _▸_, hearing}
+use Rattle.demands.specs.Calls.{Call, newHead, byte, tick, named, keys, measure, power, Calls, start, _▸_, hearing}
 use Rattle.demands.specs.Past.{Entry, room, gather, change, look, count, entry}
 use Rattle.demands.specs.Run.{System, machineOf, runs, headAfter}
 use Rattle.demands.specs.Cases.{split}
@@ -38,6 +38,7 @@ hits (newHead node) e = none
 hits (byte b t s) e = cond (room s) (damage (gather (e .ear) b t)) none
 hits (tick t) e = none
 hits (named j a) e = none
+hits (keys j s n) e = none
 
 -- the last of them since head k was restarted last, its making included; 0 where there is none
 unfoldable pub lastHit : Calls → ℕ → ℕ
@@ -92,7 +93,9 @@ cases =
     ∷ seen (hear noisier 0x011FA0000000000008B6) 0x84 0x84
     ∷ seen (hear noisier 0x011FA0000000000001BF) 0x84 0x84
     -- so do a tick, a key state and a measurement
-    ∷ seen (noisy ▸ tick 5 ▸ named 0 (keys 1) ▸ named 0 (measure (pos 7))) 0x01 0x01
+    ∷ seen (noisy ▸ tick 5 ▸ keys 0 1 10 ▸ named 0 (measure (pos 7))) 0x01 0x01
+    -- a number that is offered to head 0 by D2h, and adopted there, restarts it
+    ∷ seen (hear noisy 0x011FD2000000000005C9 ▸ keys 0 4 10) 0 0x01
     -- a power cut of head 0; the write of A0h 9 at 12
     ∷ seen (noisier ▸ named 0 power) 0 0x84
     ∷ seen (hear noisier 0x010CA0000000000009A4) 0x84 0

@@ -10,8 +10,10 @@ pub mod Demand1
 pub mod Demand2
 pub mod Demand3
 pub mod Hits
+pub mod AutoId
 pub mod Unseen
 pub mod WrongHits
+pub mod WrongOffers
 pub mod Ordered
 pub mod Proposed
 pub mod Wrong

@@ -6,6 +6,7 @@ use mathlib.Core.Bool.{true}
 use mathlib.Core.Logic.{_≢_}
 use mathlib.Core.List.{List}
 use lib.ListN.{length}
+use Rattle.state.specs.declared.parts.Head.{Head}
 use Rattle.head.specs.declared.calls.Answer.the-variants.{Done}
 use Rattle.head.specs.declared.calls.Called as head-Called
 use Rattle.head.specs.declared.calls.Fed as head-Fed
@@ -44,13 +45,12 @@ pub record Only (m : OnHead) (l : Line) (b t : ℕ) (space : List ℕ) (k : ℕ)
   pub speaks : heardAlone m l b t space k .heard ≡ Replies 1
   pub others : (j : ℕ) → j < l .count → j ≢ k → heardAlone m l b t space j .heard ≡ Replies 0
 
--- ---- a call on a line that names a head: c is what it gives, d what the same call gives on that head alone. The answer is the same, the head
--- becomes what it becomes alone, and every other head and the count are as they were
-pub record ToOne (l : Line) (i : ℕ) (c : Called) (d : head-Called.Called) : Type 0 where
-  pub answer : c .answer ≡ d .answer
-  pub there : headAt (c .line) i ≡ d .head
-  pub others : (j : ℕ) → j ≢ i → headAt (c .line) j ≡ headAt l j
-  pub count : c .line .count ≡ l .count
+-- ---- a call on a line that names a head: k is the line that it gives, h what the same call makes of that head alone. The head becomes what it
+-- becomes alone, and every other head and the count are as they were
+pub record ToOne (l : Line) (i : ℕ) (k : Line) (h : Head) : Type 0 where
+  pub there : headAt k i ≡ h
+  pub others : (j : ℕ) → j ≢ i → headAt k j ≡ headAt l j
+  pub count : k .count ≡ l .count
 
 -- a line grown by a head: d is what making that head alone gives. Where it is made, it stands in the next place and counts; no other head changes
 pub record Grown (l : Line) (c : Called) (d : head-Called.Called) : Type 0 where

@@ -124,6 +124,7 @@ pub record Outcomes : Type 0 where
   pub effects-restart-empty-ear : One effects-restart.empty_ear.Kinds.ps effects-restart.empty_ear.Kinds.r effects-restart.empty_ear.Reads.Post
   pub effects-restart-stopped-monitor : One effects-restart.stopped_monitor.Kinds.ps effects-restart.stopped_monitor.Kinds.r effects-restart.stopped_monitor.Reads.Post
   pub effects-restart-restarted : One effects-restart.restarted.Kinds.ps effects-restart.restarted.Kinds.r effects-restart.restarted.Reads.Post
+  pub effects-restart-adopted : One effects-restart.adopted.Kinds.ps effects-restart.adopted.Kinds.r effects-restart.adopted.Reads.Post
   pub effects-restart-fresh : One effects-restart.fresh.Kinds.ps effects-restart.fresh.Kinds.r effects-restart.fresh.Reads.Post
   pub effects-store-locked : One effects-store.locked.Kinds.ps effects-store.locked.Kinds.r effects-store.locked.Reads.Post
   pub effects-store-restarted : One effects-store.restarted.Kinds.ps effects-store.restarted.Kinds.r effects-store.restarted.Reads.Post
@@ -150,6 +151,7 @@ pub record Outcomes : Type 0 where
   pub head-moves-keyed : One head-moves.keyed.Kinds.ps head-moves.keyed.Kinds.r head-moves.keyed.Reads.Post
   pub head-refusal-number : One head-refusal.Refusal.number.Kinds.ps head-refusal.Refusal.number.Kinds.r head-refusal.Refusal.number.Reads.Post
   pub reply-reply-to : One reply.reply_to.Kinds.ps reply.reply_to.Kinds.r reply.reply_to.Reads.Post
+  pub reply-adoption : One reply.adoption.Kinds.ps reply.adoption.Kinds.r reply.adoption.Reads.Post
   pub line-calls-empty : One line-calls.empty.Kinds.ps line-calls.empty.Kinds.r line-calls.empty.Reads.Post
   pub line-calls-count : One line-calls.count.Kinds.ps line-calls.count.Kinds.r line-calls.count.Reads.Post
   pub line-calls-fits : One line-calls.fits.Kinds.ps line-calls.fits.Kinds.r line-calls.fits.Reads.Post

@@ -51,7 +51,26 @@ Says {n} ps r post P =
 abbrev pub Gives : {n : ℕ} (ps : List (PK n)) (r : RK n) → Out n ps r → ((κs : Lfts n) → Dens κs ps → resT r κs .Denot) → Type 0
 Gives ps r post f = Says ps r post (λ κs a y s. y ≡ f κs a)
 
+-- the contract asks nothing of the arguments: the call is for all of them
+abbrev pub AsksNothing : {n : ℕ} (ps : List (PK n)) → In n ps → Type 0
+AsksNothing {n} ps asked = (κs : Lfts n) (a : Dens κs ps) → asked κs a
+
 pub record Real (m : System) : Type 0 where
+  -- no call of a head or of a line asks anything of its arguments: what it refuses, it answers
+  pub make-asks : AsksNothing head-calls.make.Kinds.ps head-calls.make.Reads.Asked
+  pub byte-asks : AsksNothing head-calls.byte.Kinds.ps head-calls.byte.Reads.Asked
+  pub tick-asks : AsksNothing head-calls.tick.Kinds.ps head-calls.tick.Reads.Asked
+  pub measure-asks : AsksNothing head-calls.measure.Kinds.ps head-calls.measure.Reads.Asked
+  pub keys-asks : AsksNothing head-calls.keys.Kinds.ps head-calls.keys.Reads.Asked
+  pub power-asks : AsksNothing head-calls.power.Kinds.ps head-calls.power.Reads.Asked
+  pub last-hit-asks : AsksNothing head-calls.last_hit.Kinds.ps head-calls.last_hit.Reads.Asked
+  pub line-grow-asks : AsksNothing line-calls.grow.Kinds.ps line-calls.grow.Reads.Asked
+  pub line-byte-asks : AsksNothing line-calls.byte.Kinds.ps line-calls.byte.Reads.Asked
+  pub line-tick-asks : AsksNothing line-calls.tick.Kinds.ps line-calls.tick.Reads.Asked
+  pub line-measure-asks : AsksNothing line-calls.measure.Kinds.ps line-calls.measure.Reads.Asked
+  pub line-keys-asks : AsksNothing line-calls.keys.Kinds.ps line-calls.keys.Reads.Asked
+  pub line-power-asks : AsksNothing line-calls.power.Kinds.ps line-calls.power.Reads.Asked
+  pub line-last-hit-asks : AsksNothing line-calls.last_hit.Kinds.ps line-calls.last_hit.Reads.Asked
   -- a head alone
   pub factory : Gives head-calls.factory.Kinds.ps head-calls.factory.Kinds.r head-calls.factory.Reads.Post (λ κs a. m .onHead .make 31 .head)
   pub make : Gives head-calls.make.Kinds.ps head-calls.make.Kinds.r head-calls.make.Reads.Post (λ κs a. m .onHead .make (a .0))
@@ -61,7 +80,10 @@ pub record Real (m : System) : Type 0 where
       × (now (s .1 .1 .1 .0) ≡ m .onHead .space (a .0) (a .1 .0) (a .1 .1 .0) (now (a .1 .1 .1 .0))))
   pub tick : Gives head-calls.tick.Kinds.ps head-calls.tick.Kinds.r head-calls.tick.Reads.Post (λ κs a. m .onHead .ask (alone.tick (a .1 .0)) (a .0))
   pub measure : Gives head-calls.measure.Kinds.ps head-calls.measure.Kinds.r head-calls.measure.Reads.Post (λ κs a. m .onHead .ask (alone.measure (a .1 .0)) (a .0))
-  pub keys : Gives head-calls.keys.Kinds.ps head-calls.keys.Kinds.r head-calls.keys.Reads.Post (λ κs a. m .onHead .ask (alone.keys (a .1 .0)) (a .0))
+  -- a key state: the result, and the lent space as it is left
+  pub keys : Says head-calls.keys.Kinds.ps head-calls.keys.Kinds.r head-calls.keys.Reads.Post (λ κs a y s.
+      (y ≡ m .onHead .keys (a .0) (a .1 .0) (length (now (a .1 .1 .0))))
+      × (now (s .1 .1 .0) ≡ m .onHead .keySpace (a .0) (a .1 .0) (now (a .1 .1 .0))))
   pub power : Gives head-calls.power.Kinds.ps head-calls.power.Kinds.r head-calls.power.Reads.Post (λ κs a. m .onHead .ask alone.power (a .0))
   -- what a driver asks: the number and the baud setting in force; what the bench asks, the last non-zero exclusive-or; the number of a refusal
   pub number-in-force : Gives head-calls.number_in_force.Kinds.ps head-calls.number_in_force.Kinds.r head-calls.number_in_force.Reads.Post (λ κs a. a .0 .stored .number)
@@ -77,7 +99,9 @@ pub record Real (m : System) : Type 0 where
       × (now (s .1 .1 .1 .0) ≡ m .onLine .space (a .0) (a .1 .0) (a .1 .1 .0) (now (a .1 .1 .1 .0))))
   pub line-tick : Gives line-calls.tick.Kinds.ps line-calls.tick.Kinds.r line-calls.tick.Reads.Post (λ κs a. m .onLine .tick (a .0) (a .1 .0))
   pub line-measure : Gives line-calls.measure.Kinds.ps line-calls.measure.Kinds.r line-calls.measure.Reads.Post (λ κs a. m .onLine .ask (calls.measure (a .1 .1 .0)) (a .0) (a .1 .0))
-  pub line-keys : Gives line-calls.keys.Kinds.ps line-calls.keys.Kinds.r line-calls.keys.Reads.Post (λ κs a. m .onLine .ask (calls.keys (a .1 .1 .0)) (a .0) (a .1 .0))
+  pub line-keys : Says line-calls.keys.Kinds.ps line-calls.keys.Kinds.r line-calls.keys.Reads.Post (λ κs a y s.
+      (y ≡ m .onLine .keys (a .0) (a .1 .0) (a .1 .1 .0) (length (now (a .1 .1 .1 .0))))
+      × (now (s .1 .1 .1 .0) ≡ m .onLine .keySpace (a .0) (a .1 .0) (a .1 .1 .0) (now (a .1 .1 .1 .0))))
   pub line-power : Gives line-calls.power.Kinds.ps line-calls.power.Kinds.r line-calls.power.Reads.Post (λ κs a. m .onLine .ask calls.power (a .0) (a .1 .0))
   pub line-last-hit : Gives line-calls.last_hit.Kinds.ps line-calls.last_hit.Kinds.r line-calls.last_hit.Reads.Post (λ κs a. m .onLine .hit (a .0) (a .1 .0))
 
@@ -99,10 +123,6 @@ pub record RealForm (check : List Row → Answer) : Type 2 where
   pub held : (rows : List Row) → checkOf (addAll blankOf rows) ≡ check rows
   -- the number of a refusal, by which the demands tell 7 from 8
   pub form-number : Gives order_form-answer.Refusal.number.Kinds.ps order_form-answer.Refusal.number.Kinds.r order_form-answer.Refusal.number.Reads.Post (λ κs a. form.refusalOf (a .0))
-
--- the contract asks nothing of the arguments: the call is for all of them
-abbrev pub AsksNothing : {n : ℕ} (ps : List (PK n)) → In n ps → Type 0
-AsksNothing {n} ps asked = (κs : Lfts n) (a : Dens κs ps) → asked κs a
 
 -- The map of used numbers that a program calls is the one that the demands on it are proved of (the crate free_number, Demand).
 pub record RealMap (k : Keeper) : Type 2 where

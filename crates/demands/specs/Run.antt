@@ -19,20 +19,22 @@ use Rattle.head.specs.Outcome as alone
 use Rattle.line.specs.declared.calls.Line.{Line}
 use Rattle.line.specs.declared.calls.Called.{Called}
 use Rattle.line.specs.declared.calls.Fed.{Fed}
-use Rattle.line.specs.Calls.{emptyOf, headAt, fitsOf, growOf, byteOf, byteSpaceOf, tickOf, measureOf, keysOf, powerOf, lastHitOf}
-use Rattle.demands.specs.Calls.{Ask, measure, keys, power, Call, newHead, byte, tick, named, Calls, start, _▸_}
+use Rattle.line.specs.Calls.{emptyOf, headAt, fitsOf, growOf, byteOf, byteSpaceOf, tickOf, measureOf, keysOf, keysSpaceOf, powerOf, lastHitOf}
+use Rattle.demands.specs.Calls.{Ask, measure, power, Call, newHead, byte, tick, named, keys, Calls, start, _▸_}
 
 -- ---- the calls on a head alone: it is made with a node number; a byte, by its time and the length of the space lent, and the space after it;
--- a tick, a measurement, a key state, power; what the last damaged telegram was hit by
+-- a tick, a measurement, power; what the last damaged telegram was hit by; a key state, by the length of the space lent, and the space after it
 pub record OnHead : Type 0 where
   pub make : ℕ → head-Called.Called
   pub byte : Head → ℕ → ℕ → ℕ → head-Fed.Fed
   pub space : Head → ℕ → ℕ → List ℕ → List ℕ
   pub ask : alone.Ask → Head → head-Called.Called
   pub hit : Head → Hit
+  pub keys : Head → ℕ → ℕ → head-Fed.Fed
+  pub keySpace : Head → ℕ → List ℕ → List ℕ
 
 -- the calls on a line: it is grown by a node number; a byte; a tick; a call that names a head; what the last damaged telegram that a head heard
--- was hit by
+-- was hit by; a key state of the head that is named
 pub record OnLine : Type 0 where
   pub grow : Line → ℕ → Called
   pub byte : Line → ℕ → ℕ → ℕ → Fed
@@ -40,6 +42,8 @@ pub record OnLine : Type 0 where
   pub tick : Line → ℕ → Called
   pub ask : Ask → Line → ℕ → Called
   pub hit : Line → ℕ → Hit
+  pub keys : Line → ℕ → ℕ → ℕ → Fed
+  pub keySpace : Line → ℕ → ℕ → List ℕ → List ℕ
 
 pub record System : Type 0 where
   pub onHead : OnHead
@@ -48,20 +52,35 @@ pub record System : Type 0 where
 -- ---- the product: the definitions that the contracts of the crates head and line cite
 unfoldable pub askOf : Ask → Line → ℕ → Called
 askOf (measure m) l j = measureOf l j m
-askOf (keys s) l j = keysOf l j s
 askOf power l j = powerOf l j
 
 abbrev pub product : System
 product =
     record {
-      onHead = record { make = head.madeOf; byte = head.byteOf; space = head.byteSpaceOf; ask = alone.called; hit = head.lastHitOf };
-      onLine = record { grow = growOf; byte = byteOf; space = byteSpaceOf; tick = tickOf; ask = askOf; hit = lastHitOf };
+      onHead = record {
+        make = head.madeOf;
+        byte = head.byteOf;
+        space = head.byteSpaceOf;
+        ask = alone.called;
+        hit = head.lastHitOf;
+        keys = head.keysOf;
+        keySpace = head.keysSpaceOf;
+      };
+      onLine = record {
+        grow = growOf;
+        byte = byteOf;
+        space = byteSpaceOf;
+        tick = tickOf;
+        ask = askOf;
+        hit = lastHitOf;
+        keys = keysOf;
+        keySpace = keysSpaceOf;
+      };
     }
 
 -- the same asked of a head alone
 abbrev pub aloneOf : Ask → alone.Ask
 aloneOf (measure m) = alone.measure m
-aloneOf (keys s) = alone.keys s
 aloneOf power = alone.power
 
 -- the line after a call
@@ -70,6 +89,7 @@ after m (newHead node) l = m .grow l node .line
 after m (byte b t s) l = m .byte l b t s .line
 after m (tick t) l = m .tick l t .line
 after m (named j a) l = m .ask a l j .line
+after m (keys j s n) l = m .keys l j s n .line
 
 -- ---- what demand 3 asks of a machine
 pub record Machine : Type 1 where

@@ -1,5 +1,6 @@
--- Sentences of document 01 that no law states, each tried at a head made with 31: what is put to it, and all that it replies. Telegrams that a
--- wrong definition would answer otherwise: the errors that others made, the codes, the lists, freezing, calibration, the status word, the resets.
+-- Sentences of document 01, and of document 02, request (ii), that no law states, each tried at a head made with 31: what is put to it, and all that
+-- it replies. Telegrams that a wrong definition would answer otherwise: the errors that others made, the codes, the lists, freezing, calibration, the
+-- status word, the resets, Auto-ID.
 -- Assumes nothing.
 use Prim.Native.Nat.{ℕ}
 use mathlib.Core.Path.{_≡_}
@@ -8,18 +9,22 @@ use lib.IntN.{pos}
 use Rattle.signed.specs.Number.{minus}
 use Rattle.state.specs.declared.parts.Head.{Head}
 use Rattle.effects.specs.Restart.{freshOf}
-use Rattle.head.specs.Outcome.{Ask, tick, measure, keys, called}
+use Rattle.head.specs.Moves.{keyedOf}
+use Rattle.head.specs.Outcome.{Ask, tick, measure, called}
+use Rattle.line.specs.Round.{saidBy}
 use Rattle.demands.specs.Cases.{split, heardAll, saidAll}
 
--- ten bytes heard at a time, written as one number; or a tick, a measurement, a key state, power
+-- ten bytes heard at a time, written as one number; or a tick, a measurement, power; or a key state
 pub data Step : Type 0 where
   hears : ℕ → ℕ → Step
   asked : Ask → Step
+  presses : ℕ → Step
 
 abbrev pub answered : List Step → Head → List (List ℕ)
 answered [] h = []
 answered (hears time ten ∷ ss) h = saidAll (split 10 ten) time h ++ answered ss (heardAll (split 10 ten) time h)
 answered (asked a ∷ ss) h = answered ss (called a h .head)
+answered (presses s ∷ ss) h = saidBy (keyedOf h s) ++ answered ss (keyedOf h s .head)
 
 pub record Told : Type 0 where
   pub steps : List Step
@@ -55,7 +60,7 @@ sentences =
     ∷ told (hears 0 0x011FFF02000000006487 ∷ hears 0 0x001FFF000000000000E0 ∷ hears 0 0x001FFA000000000000E5 ∷ hears 0 0x011FFB000400000007E6 ∷ hears 0 0x001FFB000000000009ED ∷ hears 0 0x001FFA000000000000E5 ∷ [])
     (0x011FFF00000000006485 ∷ 0x001FFF04010000006481 ∷ 0x001FFA040100000401E5 ∷ 0x011FFB040100000007E7 ∷ 0x001FFB040500000007E2 ∷ 0x001FFA040500000405E5 ∷ [])
     -- 1Fh is adopted when calibrating, not when written; A7h, A0h 7 and left do so
-    ∷ told (asked (measure (pos 1000)) ∷ hears 0 0x011F1F00000000003233 ∷ hears 0 0x001FFE000000000000E1 ∷ hears 0 0x011FA7000000000001B8 ∷ hears 0 0x001FFE000000000000E1 ∷ asked (measure (pos 1010)) ∷ hears 0 0x001FFE000000000000E1 ∷ hears 0 0x011F1F0000FFFFFFF907 ∷ hears 0 0x011FA0000000000007B9 ∷ hears 0 0x001FFE000000000000E1 ∷ hears 0 0x011F1F00000000000302 ∷ asked (keys 1) ∷ hears 0 0x001FFE000000000000E1 ∷ hears 0 0x011F1E0000FFFFFFFB04 ∷ hears 0 0x001FFE000000000000E1 ∷ [])
+    ∷ told (asked (measure (pos 1000)) ∷ hears 0 0x011F1F00000000003233 ∷ hears 0 0x001FFE000000000000E1 ∷ hears 0 0x011FA7000000000001B8 ∷ hears 0 0x001FFE000000000000E1 ∷ asked (measure (pos 1010)) ∷ hears 0 0x001FFE000000000000E1 ∷ hears 0 0x011F1F0000FFFFFFF907 ∷ hears 0 0x011FA0000000000007B9 ∷ hears 0 0x001FFE000000000000E1 ∷ hears 0 0x011F1F00000000000302 ∷ presses 1 ∷ hears 0 0x001FFE000000000000E1 ∷ hears 0 0x011F1E0000FFFFFFFB04 ∷ hears 0 0x001FFE000000000000E1 ∷ [])
     (0x011F1F00000000003233 ∷ 0x001FFE0000000003E80A ∷ 0x011FA7000000000001B8 ∷ 0x001FFE000000000032D3 ∷ 0x001FFE00000000003CDD ∷ 0x011F1F0000FFFFFFF907 ∷ 0x011FA0000000000007B9 ∷ 0x001FFE0000FFFFFFF9E7 ∷ 0x011F1F00000000000302 ∷ 0x001FFE200000000003C2 ∷ 0x011F1E2000FFFFFFFB24 ∷ 0x001FFE2000FFFFFFFEC0 ∷ [])
     -- A - S is not taken in 32 bits; 34h turns it
     ∷ told (asked (measure (pos 1)) ∷ hears 0 0x011FFF00008000000061 ∷ hears 0 0x001FFC000000000000E3 ∷ hears 0 0x011F340000000000012B ∷ hears 0 0x001FFC000000000000E3 ∷ hears 0 0x011FFF000000000005E4 ∷ hears 0 0x001FFC000000000000E3 ∷ [])
@@ -71,7 +76,7 @@ sentences =
     (0x011F0B00000000000217 ∷ 0x001FFE00000000007B9A ∷ 0x001FFC00000000007B98 ∷ 0x011F330000000000012C ∷ 0x001FFE000000003039E8 ∷ 0x001FFC00000000007B98 ∷ 0x011F330000000000022F ∷ 0x001FFE000000003039E8 ∷ 0x001FFC000000003039EA ∷ [])
     -- status bits: valid 10 and 2; 5 within 20h, 3 within 31h, 6 above, 0 and 1 by 1Bh; 4 static, which FAh's read and control bit 4 clear; 9
     -- incremental, 13 to 15 keys
-    ∷ told (hears 0 0x011FFF02000000006487 ∷ hears 0 0x011F310000000000321D ∷ hears 0 0x001FFA000000000000E5 ∷ asked (measure (pos 60)) ∷ hears 0 0x001FFA000000000000E5 ∷ asked (measure (pos 98)) ∷ hears 0 0x001FFA000000000000E5 ∷ hears 0 0x001FFA000000000000E5 ∷ asked (measure (pos 130)) ∷ hears 0 0x001FFA000000000000E5 ∷ hears 0 0x011F1B00000000000104 ∷ hears 0 0x001FFA000000000000E5 ∷ asked (measure (pos 100)) ∷ hears 0 0x011FFB001000000000F5 ∷ hears 0 0x001FFA000000000000E5 ∷ asked (keys 6) ∷ hears 0 0x001FFA000000000000E5 ∷ asked (measure (pos 130)) ∷ hears 0 0x001FFE000000000000E1 ∷ asked (keys 0) ∷ hears 0 0x001FFA000000000000E5 ∷ [])
+    ∷ told (hears 0 0x011FFF02000000006487 ∷ hears 0 0x011F310000000000321D ∷ hears 0 0x001FFA000000000000E5 ∷ asked (measure (pos 60)) ∷ hears 0 0x001FFA000000000000E5 ∷ asked (measure (pos 98)) ∷ hears 0 0x001FFA000000000000E5 ∷ hears 0 0x001FFA000000000000E5 ∷ asked (measure (pos 130)) ∷ hears 0 0x001FFA000000000000E5 ∷ hears 0 0x011F1B00000000000104 ∷ hears 0 0x001FFA000000000000E5 ∷ asked (measure (pos 100)) ∷ hears 0 0x011FFB001000000000F5 ∷ hears 0 0x001FFA000000000000E5 ∷ presses 6 ∷ hears 0 0x001FFA000000000000E5 ∷ asked (measure (pos 130)) ∷ hears 0 0x001FFE000000000000E1 ∷ presses 0 ∷ hears 0 0x001FFA000000000000E5 ∷ [])
     (0x011FFF00000000006485 ∷ 0x011F3104010000003218 ∷ 0x001FFA040100000401E5 ∷ 0x001FFA040900000409E5 ∷ 0x001FFA043800000438E5 ∷ 0x001FFA042800000428E5 ∷ 0x001FFA044A0000044AE5 ∷ 0x011F1B044A000000014A ∷ 0x001FFA044900000449E5 ∷ 0x011FFB043800000000D9 ∷ 0x001FFA042800000428E5 ∷ 0x001FFAC6020000C602E5 ∷ 0x001FFEC6020000001E3B ∷ 0x001FFA060200000602E5 ∷ [])
     -- A0h 2 resets all but the bus six, 5 the bus six, 1 all; 00h to 31; A0h may be broadcast
     ∷ told (hears 0 0x011F010000000000021D ∷ hears 0 0x011F0400000000000913 ∷ hears 0 0x011FA0000000000002BC ∷ hears 0 0x001F010000000000001E ∷ hears 0 0x001F040000000000001B ∷ hears 0 0x011F0400000000000913 ∷ hears 0 0x011FA0000000000005BB ∷ hears 0 0x001F010000000000001E ∷ hears 0 0x001F040000000000001B ∷ hears 0 0x0200A0000000000001A3 ∷ hears 0 0x001F040000000000001B ∷ hears 0 0x011F0000000000000C12 ∷ hears 0 0x011FA0000000000005BB ∷ hears 0 0x001F000000000000001F ∷ [])
@@ -79,4 +84,32 @@ sentences =
     -- the monitor: 02h 1, from the last sound telegram, for whomever; raised once
     ∷ told (hears 0 0x011F020000000000011D ∷ hears 7 0x00052000000000000025 ∷ asked (tick 106) ∷ hears 8 0x001FFD000000000000E2 ∷ asked (tick 107) ∷ asked (tick 108) ∷ hears 9 0x001FFD000000000000E2 ∷ hears 9 0x001F800000000000009F ∷ [])
     (0x011F020000000000011D ∷ 0x001FFD000000000000E2 ∷ 0x001FFD008000000081E3 ∷ 0x001F800080000000011E ∷ [])
+    -- document 02, request (ii): a number that is offered by D2h is remembered without a reply; up adopts it, with a write's reply of node 31, and it is
+    -- in force at once
+    ∷ told (hears 0 0x011FD2000000000005C9 ∷ presses 4 ∷ hears 0 0x00050000000000000005 ∷ hears 0 0x001F000000000000001F ∷ [])
+    (0x011FD2000000000005C9 ∷ 0x00050000000000000500 ∷ [])
+    -- whatever 35h says; left comes first, and the calibration survives the restart
+    ∷ told (asked (measure (pos 100)) ∷ hears 0 0x011F1F00000000000706 ∷ hears 0 0x011F350000000000002B ∷ hears 0 0x011FD2000000000009C5 ∷ presses 5 ∷ hears 0 0x0009FE000000000000F7 ∷ hears 0 0x0009FA000000000000F3 ∷ [])
+    (0x011F1F00000000000706 ∷ 0x011F350000000000002B ∷ 0x011FD2000000000009C5 ∷ 0x0009FE000000000007F0 ∷ 0x0009FA000000000000F3 ∷ [])
+    -- a key that is held down adopts nothing; the status word is that of before the call, and incremental is not switched, but cleared; a key still held
+    -- down then counts as newly pressed
+    ∷ told (presses 4 ∷ hears 0 0x011FD2000000000005C9 ∷ presses 4 ∷ presses 0 ∷ presses 4 ∷ hears 0 0x0005FA000000000000FF ∷ presses 4 ∷ hears 0 0x0005FA000000000000FF ∷ [])
+    (0x011FD2020000000005CB ∷ 0x0005FA000000000000FF ∷ 0x0005FA820000008200FF ∷ [])
+    -- a number outside 1..31 is refused and drops the offer: up switches incremental then
+    ∷ told (hears 0 0x011FD2000000000005C9 ∷ hears 0 0x011FD2000000000000CC ∷ presses 4 ∷ hears 0 0x001FFA000000000000E5 ∷ [])
+    (0x011FFD00000000018260 ∷ 0x001FFA820000008200E5 ∷ [])
+    ∷ told (hears 0 0x011FD2000000000005C9 ∷ hears 0 0x011FD2000000000020EC ∷ presses 4 ∷ hears 0 0x001FFA000000000000E5 ∷ [])
+    (0x011FFD00000000028263 ∷ 0x001FFA820000008200E5 ∷ [])
+    -- a read is 02 84, a broadcast silent, a damaged one 00 80: none of them drops the offer, and two enter the input list
+    ∷ told (hears 0 0x011FD2000000000005C9 ∷ hears 0 0x001FD2000000000000CD ∷ hears 0 0x021FD2000000000000CF ∷ hears 0 0x011FD2000000000000CD ∷ hears 0 0x001F9600000000000089 ∷ presses 4 ∷ [])
+    (0x001FFD00000000028464 ∷ 0x011FFD00000000008063 ∷ 0x001F960000000000028B ∷ 0x011FD2000000000005C9 ∷ [])
+    -- where the number in force is not 31 it is 00 85, before the range
+    ∷ told (hears 0 0x011F0000000000000C12 ∷ hears 0 0x011FA0000000000009B7 ∷ hears 0 0x010CD2000000000005DA ∷ hears 0 0x010CD20000000000C817 ∷ presses 4 ∷ [])
+    (0x011F0000000000000C12 ∷ 0x011FA0000000000009B7 ∷ 0x010CFD00000000008575 ∷ 0x010CFD00000000008575 ∷ [])
+    -- D1h and D3h are unknown
+    ∷ told (hears 0 0x011FD1000000000005CA ∷ hears 0 0x011FD3000000000005C8 ∷ presses 4 ∷ [])
+    (0x011FFD00000000008360 ∷ 0x011FFD00000000008360 ∷ [])
+    -- the interlock does not apply: 0Eh is 1 and the interlock closed
+    ∷ told (hears 0 0x011F0E00000000000111 ∷ hears 0 0x011F040000000000071D ∷ hears 0 0x011FD2000000000005C9 ∷ presses 4 ∷ hears 0 0x00050E0000000000000B ∷ [])
+    (0x011F0E00000000000111 ∷ 0x011FFD00000000038565 ∷ 0x011FD2000000000005C9 ∷ 0x00050E0000000000010A ∷ [])
     ∷ []

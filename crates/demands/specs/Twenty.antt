@@ -4,6 +4,7 @@
 use Prim.Native.Nat.{ℕ, _≤_, _<_}
 use mathlib.Core.Path.{_≡_}
 use mathlib.Core.Bool.{true}
+use mathlib.Core.Logic.{_≢_}
 use lib.IntN.{ℤ, natAbs}
 use Rattle.rows.specs.Table.{rowOf}
 use Rattle.rows.specs.Ranges.{fitsIn, allRightOf}
@@ -20,6 +21,9 @@ pub record Formed (h : Head) : Type 0 where
   pub values : allRightOf (h .stored .values) ≡ true
   pub number : (1 ≤ h .stored .number) × (h .stored .number ≤ 127)
   pub adopted : fitsIn (rowOf 19) (h .measurement .adopted) ≡ true
+  -- document 02, request (ii): a number that is offered is 1 to 31 (0: none is), and the number in force is 31
+  pub offer : h .stored .offer ≤ 31
+  pub offer-at : h .stored .offer ≢ 0 → h .stored .number ≡ 31
   -- ten entries in a list, two damaged in a row, nine bytes gathered, keys 7
   pub memory : h .faults .memory .count ≤ 10
   pub inputs : h .faults .inputs .count ≤ 10

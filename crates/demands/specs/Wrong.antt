@@ -9,9 +9,8 @@ use lib.Dec.{eqb}
 use lib.ListN.{length, take, drop, replicate, set}
 use Rattle.wire.specs.Telegram.{fieldsOf, bytesOf}
 use Rattle.state.specs.declared.parts.Head.{Head}
-use Rattle.state.specs.declared.parts.Stored.{Stored}
 use Rattle.state.specs.Settings.{valueAt, nodePlace}
-use Rattle.effects.specs.Restart.{emptyEar, restartedOf, freshOf}
+use Rattle.effects.specs.Restart.{emptyEar, restartedOf, withStored, freshOf}
 use Rattle.head.specs.declared.refusal.Refusal.{Refusal}
 use Rattle.head.specs.declared.refusal.Refusal.the-variants.{Node, OutOfReach}
 use Rattle.head.specs.declared.calls.Heard.{Heard}
@@ -23,7 +22,7 @@ use Rattle.head.specs.Outcome as alone
 use Rattle.line.specs.declared.calls.Line.{Line}
 use Rattle.line.specs.declared.calls.Called.{Called}
 use Rattle.line.specs.Calls as line
-use Rattle.demands.specs.Calls.{Ask, keys, Call, newHead, byte, tick, named}
+use Rattle.demands.specs.Calls.{Ask, Call, newHead, byte, tick, named, keys}
 use Rattle.demands.specs.Run.{OnHead, OnLine, System, product, askOf, after, Machine, machineOf}
 use Rattle.demands.specs.Demand1.{Demand1}
 use Rattle.demands.specs.Demand2.{Demand2}
@@ -39,6 +38,8 @@ refusing why =
         space = λ h b t s. s;
         ask = λ a h. head.refusedWith h why;
         hit = λ h. hit.Refused why;
+        keys = λ h s n. record { head = h; heard = heard.Refused why };
+        keySpace = λ h s x. x;
       };
       onLine = record {
         grow = λ l node. line.refusedWith l why;
@@ -47,6 +48,8 @@ refusing why =
         tick = λ l t. line.refusedWith l why;
         ask = λ a l j. line.refusedWith l why;
         hit = λ l j. hit.Refused why;
+        keys = λ l j s n. record { line = l; heard = heard.Refused why };
+        keySpace = λ l j s x. x;
       };
     }
 
@@ -60,6 +63,8 @@ unchanging =
         space = head.byteSpaceOf;
         ask = λ a h. record { head = h; answer = alone.called a h .answer };
         hit = head.lastHitOf;
+        keys = λ h s n. record { head = h; heard = head.keysOf h s n .heard };
+        keySpace = head.keysSpaceOf;
       };
       onLine = record {
         grow = λ l node. record { line = l; answer = line.growOf l node .answer };
@@ -68,6 +73,8 @@ unchanging =
         tick = λ l t. record { line = l; answer = line.tickOf l t .answer };
         ask = λ a l j. record { line = l; answer = askOf a l j .answer };
         hit = line.lastHitOf;
+        keys = λ l j s n. record { line = l; heard = line.keysOf l j s n .heard };
+        keySpace = line.keysSpaceOf;
       };
     }
 
@@ -81,6 +88,8 @@ counting k =
         space = head.byteSpaceOf;
         ask = alone.called;
         hit = head.lastHitOf;
+        keys = head.keysOf;
+        keySpace = head.keysSpaceOf;
       };
       onLine = record {
         grow = line.growOf;
@@ -89,6 +98,8 @@ counting k =
         tick = line.tickOf;
         ask = askOf;
         hit = line.lastHitOf;
+        keys = line.keysOf;
+        keySpace = line.keysSpaceOf;
       };
     }
 
@@ -108,6 +119,8 @@ headSaying f =
       space = λ h b t s. respoken f (head.byteOf h b t (length s) .heard) (head.byteSpaceOf h b t s);
       ask = alone.called;
       hit = head.lastHitOf;
+      keys = head.keysOf;
+      keySpace = head.keysSpaceOf;
     }
 
 abbrev pub lineSaying : (List ℕ → List ℕ) → OnLine
@@ -119,6 +132,8 @@ lineSaying f =
       tick = line.tickOf;
       ask = askOf;
       hit = line.lastHitOf;
+      keys = line.keysOf;
+      keySpace = line.keysSpaceOf;
     }
 
 -- the same reply always
@@ -140,22 +155,10 @@ zeroing = record { onHead = product .onHead; onLine = lineSaying (λ r. replicat
 
 -- ---- wrong in one call on a head alone, whatever the others do: power, or a tick, that does nothing; a restart that takes 00h for the baud
 -- setting, or that forgets what is stored at 04h; a refused node number that hands back a head at 7
-abbrev pub withStored : Head → Stored → Head
-withStored h s =
-    record {
-      stored = s;
-      faults = h .faults;
-      measurement = h .measurement;
-      targets = h .targets;
-      monitor = h .monitor;
-      ear = h .ear;
-      keys = h .keys;
-    }
-
 abbrev pub baudOfNode : Head → Head
 baudOfNode h =
     let s = h .stored in
-    withStored h (record { values = s .values; number = s .number; baud = valueAt (s .values) nodePlace; unlocked = s .unlocked })
+    withStored h (record { values = s .values; number = s .number; baud = valueAt (s .values) nodePlace; offer = s .offer; unlocked = s .unlocked })
 
 abbrev pub IdlePower : System → Type 0
 IdlePower m = (h : Head) → m .onHead .ask alone.power h ≡ head.doneWith h
@@ -169,7 +172,7 @@ BaudOfNode m = (h : Head) → m .onHead .ask alone.power h ≡ head.doneWith (ba
 abbrev pub forgotten : Head → Head
 forgotten h =
     let s = h .stored in
-    withStored h (record { values = set (s .values) 4 6; number = s .number; baud = s .baud; unlocked = s .unlocked })
+    withStored h (record { values = set (s .values) 4 6; number = s .number; baud = s .baud; offer = s .offer; unlocked = s .unlocked })
 
 abbrev pub Forgets : System → Type 0
 Forgets m = (h : Head) → m .onHead .ask alone.power h ≡ head.doneWith (forgotten (restartedOf h))
@@ -185,7 +188,7 @@ abbrev pub FirstToo : System → Type 0
 FirstToo m = (a : Ask) (l : Line) (j : ℕ) → m .onLine .ask a l j ≡ firstToo (askOf a l j) j
 
 abbrev pub FourForFive : System → Type 0
-FourForFive m = (l : Line) (j : ℕ) → m .onLine .ask (keys 8) l j ≡ line.refusedWith l OutOfReach
+FourForFive m = (l : Line) (j n : ℕ) → m .onLine .keys l j 8 n ≡ line.unfed l OutOfReach
 
 -- ---- obeys the first telegram and only echoes later writes: a line, or a head, and whether a sound telegram has been heard. From then on
 -- every byte is answered as before, and what is stored stays as it was
@@ -222,6 +225,7 @@ echoAfter (newHead node) l = record { line = after (product .onLine) (newHead no
 echoAfter (byte b t s) l = echoedLine l (after (product .onLine) (byte b t s) (l .line))
 echoAfter (tick t) l = record { line = after (product .onLine) (tick t) (l .line); done = l .done }
 echoAfter (named j a) l = record { line = after (product .onLine) (named j a) (l .line); done = l .done }
+echoAfter (keys j s n) l = record { line = after (product .onLine) (keys j s n) (l .line); done = l .done }
 
 abbrev pub echoing : Machine
 echoing =
@@ -246,7 +250,7 @@ echoing =
 abbrev pub atOnce : Head → Head
 atOnce h =
     let s = h .stored in
-    withStored h (record { values = s .values; number = valueAt (s .values) nodePlace; baud = s .baud; unlocked = s .unlocked })
+    withStored h (record { values = s .values; number = valueAt (s .values) nodePlace; baud = s .baud; offer = s .offer; unlocked = s .unlocked })
 
 abbrev pub atOnceAll : List Head → List Head
 atOnceAll [] = []
@@ -265,6 +269,8 @@ hasty =
         tick = line.tickOf;
         ask = askOf;
         hit = line.lastHitOf;
+        keys = line.keysOf;
+        keySpace = line.keysSpaceOf;
       };
     }
 

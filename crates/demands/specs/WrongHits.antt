@@ -48,6 +48,8 @@ keepingBy f =
         tick = line.tickOf;
         ask = askOf;
         hit = line.lastHitOf;
+        keys = line.keysOf;
+        keySpace = line.keysSpaceOf;
       };
     }
 
@@ -86,6 +88,8 @@ muted =
         space = head.byteSpaceOf;
         ask = alone.called;
         hit = head.lastHitOf;
+        keys = head.keysOf;
+        keySpace = head.keysSpaceOf;
       };
       onLine = product .onLine;
     }

@@ -10,16 +10,17 @@ use mathlib.Core.List.{List, [], _∷_}
 use lib.Dec.{ltb, eqb}
 use lib.IntN.{ℤ, pos}
 use lib.ListN.{length, getD}
-use borrow.Author.Tests.{ltb-true}
+use borrow.Author.Tests.{ltb-true, eqb-false}
 use Rattle.wire.specs.Faults.{codeOf}
 use Rattle.wire.specs.declared.fault.Fault.the-variants.{CheckSum}
 use Rattle.rows.specs.declared.table.Row.{Row}
 use Rattle.rows.specs.Table.{rows, blank, rowOf, delivery}
 use Rattle.rows.specs.Ranges.{fitsIn, allIn, allRightOf}
 use Rattle.rows.specs.Resets.{resetsOf}
-use Rattle.rows.proofs.Laws.{all-right-at, all-right-set, delivery-fits, delivery-right}
+use Rattle.rows.proofs.Laws.{all-right-at, all-right-set, delivery-fits, delivery-right, node-fits}
 use Rattle.judge.specs.declared.deed.Deed.{Deed}
-use Rattle.judge.specs.declared.deed.Deed.the-variants.{Nothing, Store, Reset, Restart, Calibrate, Forget, Unlock, Freeze, Aim1, Aim2, ClearStatic, Release}
+use Rattle.judge.specs.declared.deed.Deed.the-variants.{Nothing, Store, Reset, Restart, Calibrate, Forget, Unlock, Freeze, Aim1, Aim2, ClearStatic, Release, Offer, Withdraw}
+use Rattle.judge.proofs.Allowed.{Allowed}
 use Rattle.judge.specs.declared.verdict.Verdict.{Verdict}
 use Rattle.judge.specs.declared.verdict.Verdict.the-variants.{Obeyed, Silent, Refused}
 use Rattle.state.specs.declared.parts.Head.{Head}
@@ -30,11 +31,11 @@ use Rattle.state.specs.Bits.{bitSet}
 use Rattle.state.specs.Settings.{nodePlace, offsetPlace, calibrationPlace}
 use Rattle.state.specs.Errors.{emptyList}
 use Rattle.state.specs.Wellformed.{inReachOf, storedFits, faultsFit, measurementFits, earFits, wellformedOf}
-use Rattle.state.proofs.Laws.{stored-told, stored-holds, faults-told, faults-holds, measurement-told, measurement-holds, ear-holds, told, holds, remembered-few, small-reach, shown-small}
-use Rattle.effects.specs.Stored.{resetValue, resetFrom, resetOf, restartedStored, storedBy}
+use Rattle.state.proofs.Laws.{stored-told, stored-holds, none-offered, offer-told, offer-holds, faults-told, faults-holds, measurement-told, measurement-holds, ear-holds, told, holds, remembered-few, small-reach, shown-small}
+use Rattle.effects.specs.Stored.{resetValue, resetFrom, resetOf, adoptedStored, restartedStored, storedBy}
 use Rattle.effects.specs.Faults.{withDamaged, withPending, withHit, raisedOf, damagedOf, countedOf, complainedOf, acknowledgedOf, restartedFaults, faultsBy}
 use Rattle.effects.specs.Measured.{calibratedOf, switchedOf, frozenOf, releasedOf, restartedMeasurement, movedOf, measurementBy}
-use Rattle.effects.specs.Restart.{emptyEar, restartedOf, deliveredOf, unpowered, freshOf}
+use Rattle.effects.specs.Restart.{emptyEar, restartedOf, adoptedOf, deliveredOf, unpowered, freshOf}
 
 -- what is chosen by a test fits where both fit, the first only when the test passes
 pub either : {A : Type 0} (fits : A → Bool) (b : Bool) (x y : A) → (b ≡ true → fits x ≡ true) → fits y ≡ true → fits (cond b x y) ≡ true
@@ -63,26 +64,32 @@ reset-right command vs h =
 
 restarted-stored : (s : Stored) → allRightOf (s .values) ≡ true → storedFits (restartedStored s) ≡ true
 unfolding restartedStored
-restarted-stored s h = stored-holds _ (record { values = h; number = all-right-at (s .values) nodePlace h (omega arith) })
+restarted-stored s h =
+    stored-holds _ (record { values = h; number = all-right-at (s .values) nodePlace h (omega arith); offer = none-offered _ })
 
-pub stored-keeps : (d : Deed) (s : Stored) → ((i w : ℕ) → d ≡ Store i w → fitsIn (rowOf i) w ≡ true) → storedFits s ≡ true → storedFits (storedBy d s) ≡ true
+-- what a telegram may do (judge: Allowed) keeps it
+pub stored-keeps : (d : Deed) (s : Stored) → Allowed (s .number) d → storedFits s ≡ true → storedFits (storedBy d s) ≡ true
 unfolding storedBy
 stored-keeps Nothing s f h = h
 stored-keeps (Store i w) s f h =
     let k = stored-told s h in
-    stored-holds _ (record { values = all-right-set (s .values) i w (k .values) (f i w refl); number = k .number })
+    stored-holds _ (record { values = all-right-set (s .values) i w (k .values) (f .1); number = k .number; offer = k .offer })
 stored-keeps (Reset command) s f h =
     let k = stored-told s h in
-    stored-holds _ (record { values = reset-right command (s .values) (k .values); number = k .number })
+    stored-holds _ (record { values = reset-right command (s .values) (k .values); number = k .number; offer = k .offer })
 stored-keeps Restart s f h = h
 stored-keeps Calibrate s f h = h
 stored-keeps Forget s f h = h
-stored-keeps (Unlock b) s f h = let k = stored-told s h in stored-holds _ (record { values = k .values; number = k .number })
+stored-keeps (Unlock b) s f h = let k = stored-told s h in stored-holds _ (record { values = k .values; number = k .number; offer = k .offer })
 stored-keeps Freeze s f h = h
 stored-keeps (Aim1 v w) s f h = h
 stored-keeps (Aim2 v w) s f h = h
 stored-keeps ClearStatic s f h = h
 stored-keeps Release s f h = h
+stored-keeps (Offer n) s f h =
+    let k = stored-told s h in
+    stored-holds _ (record { values = k .values; number = k .number; offer = offer-holds (s .number) n (f .2) (λ _. f .0) })
+stored-keeps Withdraw s f h = let k = stored-told s h in stored-holds _ (record { values = k .values; number = k .number; offer = none-offered _ })
 
 -- ---- the errors
 pub raised-keeps : (f : Faults) (code : ℕ) → faultsFit f ≡ true → faultsFit (raisedOf f code) ≡ true
@@ -145,6 +152,8 @@ faults-keeps (Aim1 v word) last f h = acknowledged-keeps word last f h
 faults-keeps (Aim2 v word) last f h = acknowledged-keeps word last f h
 faults-keeps ClearStatic last f h = h
 faults-keeps Release last f h = h
+faults-keeps (Offer n) last f h = h
+faults-keeps Withdraw last f h = h
 
 -- ---- the measurement
 zero-reach : inReachOf (pos 0) ≡ true
@@ -203,6 +212,8 @@ measurement-keeps (Aim1 v w) vs g a h = h
 measurement-keeps (Aim2 v w) vs g a h = h
 measurement-keeps ClearStatic vs g a h = h
 measurement-keeps Release vs g a h = released-keeps g h
+measurement-keeps (Offer n) vs g a h = h
+measurement-keeps Withdraw vs g a h = h
 
 -- ---- the head
 pub empty-ear-fits : (at : ℕ) → earFits (emptyEar at) ≡ true
@@ -225,6 +236,16 @@ restarted-fits h s f m =
 
 pub restarted-keeps : (h : Head) → wellformedOf h ≡ true → wellformedOf (restartedOf h) ≡ true
 restarted-keeps h w = let k = told h w in restarted-fits h (stored-told (h .stored) (k .stored) .values) (k .faults) (k .measurement)
+
+-- a number that is offered may be a node number
+pub adopted-keeps : (h : Head) → eqb (h .stored .offer) 0 ≡ false → wellformedOf h ≡ true → wellformedOf (adoptedOf h) ≡ true
+unfolding adoptedOf adoptedStored
+adopted-keeps h e w =
+    let k = told h w in
+    let s = stored-told (h .stored) (k .stored) in
+    let n = eqb-false (h .stored .offer) 0 e in
+    let l = offer-told (h .stored .number) (h .stored .offer) (s .offer) .0 in
+    restarted-fits _ (all-right-set (h .stored .values) nodePlace (h .stored .offer) (s .values) (node-fits (h .stored .offer) (omega arith) (omega arith))) (k .faults) (k .measurement)
 
 pub fresh-keeps : (node : ℕ) → fitsIn (rowOf nodePlace) node ≡ true → wellformedOf (freshOf node) ≡ true
 unfolding freshOf deliveredOf emptyList rowOf rows

@@ -7,7 +7,7 @@ use types.Run.{OneOf, miss}
 use denote.Enum.Declared.{tagOf}
 use Rattle.judge.proofs.deed.Deed.{the-type}
 use Rattle.judge.specs.declared.deed.Deed.{Deed}
-use Rattle.judge.specs.declared.deed.Deed.the-variants.{Nothing, Store, Reset, Restart, Calibrate, Forget, Unlock, Freeze, Aim1, Aim2, ClearStatic, Release}
+use Rattle.judge.specs.declared.deed.Deed.the-variants.{Nothing, Store, Reset, Restart, Calibrate, Forget, Unlock, Freeze, Aim1, Aim2, ClearStatic, Release, Offer, Withdraw}
 use Rattle.state.specs.declared.parts.Stored.{Stored}
 use Rattle.state.specs.declared.parts.Faults.{Faults}
 use Rattle.state.specs.declared.parts.Measurement.{Measurement}
@@ -34,9 +34,11 @@ stored-rest (Aim1 v w) s h = refl
 stored-rest (Aim2 v w) s h = refl
 stored-rest ClearStatic s h = refl
 stored-rest Release s h = refl
+stored-rest (Offer n) s h = absurd (miss storedKeys 12 tt h)
+stored-rest Withdraw s h = absurd (miss storedKeys 13 tt h)
 
 abbrev pub faultsKeys : List ℕ
-faultsKeys = 0 ∷ 1 ∷ 2 ∷ 3 ∷ 4 ∷ 6 ∷ 7 ∷ 10 ∷ 11 ∷ []
+faultsKeys = 0 ∷ 1 ∷ 2 ∷ 3 ∷ 4 ∷ 6 ∷ 7 ∷ 10 ∷ 11 ∷ 12 ∷ 13 ∷ []
 
 pub faults-rest : (d : Deed) (last : ℕ) (f : Faults) → OneOf faultsKeys (tagOf the-type d) → f ≡ faultsBy d last f
 unfolding faultsBy
@@ -52,9 +54,11 @@ faults-rest (Aim1 v w) last f h = absurd (miss faultsKeys 8 tt h)
 faults-rest (Aim2 v w) last f h = absurd (miss faultsKeys 9 tt h)
 faults-rest ClearStatic last f h = refl
 faults-rest Release last f h = refl
+faults-rest (Offer n) last f h = refl
+faults-rest Withdraw last f h = refl
 
 abbrev pub measurementKeys : List ℕ
-measurementKeys = 0 ∷ 1 ∷ 2 ∷ 3 ∷ 5 ∷ 6 ∷ 8 ∷ 9 ∷ 10 ∷ []
+measurementKeys = 0 ∷ 1 ∷ 2 ∷ 3 ∷ 5 ∷ 6 ∷ 8 ∷ 9 ∷ 10 ∷ 12 ∷ 13 ∷ []
 
 pub measurement-rest : (d : Deed) (vs : List ℕ) (g : Measurement) → OneOf measurementKeys (tagOf the-type d) → g ≡ measurementBy d vs g
 unfolding measurementBy
@@ -70,9 +74,11 @@ measurement-rest (Aim1 v w) vs g h = refl
 measurement-rest (Aim2 v w) vs g h = refl
 measurement-rest ClearStatic vs g h = refl
 measurement-rest Release vs g h = absurd (miss measurementKeys 11 tt h)
+measurement-rest (Offer n) vs g h = refl
+measurement-rest Withdraw vs g h = refl
 
 abbrev pub targetsKeys : List ℕ
-targetsKeys = 0 ∷ 1 ∷ 2 ∷ 3 ∷ 4 ∷ 5 ∷ 6 ∷ 7 ∷ 11 ∷ []
+targetsKeys = 0 ∷ 1 ∷ 2 ∷ 3 ∷ 4 ∷ 5 ∷ 6 ∷ 7 ∷ 11 ∷ 12 ∷ 13 ∷ []
 
 pub targets-rest : (d : Deed) (vs : List ℕ) (g : Measurement) (t : Targets) → OneOf targetsKeys (tagOf the-type d) → t ≡ targetsBy d vs g t
 unfolding targetsBy
@@ -88,3 +94,5 @@ targets-rest (Aim1 v w) vs g t h = absurd (miss targetsKeys 8 tt h)
 targets-rest (Aim2 v w) vs g t h = absurd (miss targetsKeys 9 tt h)
 targets-rest ClearStatic vs g t h = absurd (miss targetsKeys 10 tt h)
 targets-rest Release vs g t h = refl
+targets-rest (Offer n) vs g t h = refl
+targets-rest Withdraw vs g t h = refl

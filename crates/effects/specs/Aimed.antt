@@ -4,7 +4,7 @@ use Prim.Native.Nat.{ℕ}
 use mathlib.Core.Bool.{false, not, _&&_, _||_}
 use mathlib.Core.List.{List}
 use Rattle.judge.specs.declared.deed.Deed.{Deed}
-use Rattle.judge.specs.declared.deed.Deed.the-variants.{Nothing, Store, Reset, Restart, Calibrate, Forget, Unlock, Freeze, Aim1, Aim2, ClearStatic, Release}
+use Rattle.judge.specs.declared.deed.Deed.the-variants.{Nothing, Store, Reset, Restart, Calibrate, Forget, Unlock, Freeze, Aim1, Aim2, ClearStatic, Release, Offer, Withdraw}
 use Rattle.state.specs.declared.parts.Measurement.{Measurement}
 use Rattle.state.specs.declared.parts.Targets.{Targets}
 use Rattle.state.specs.Bits.{bitSet}
@@ -76,3 +76,5 @@ targetsBy (Aim1 value word) vs g t = firstAimed value word t
 targetsBy (Aim2 value word) vs g t = settledOf vs g (secondAimed value word t)
 targetsBy ClearStatic vs g t = clearedOf t
 targetsBy Release vs g t = t
+targetsBy (Offer n) vs g t = t
+targetsBy Withdraw vs g t = t

@@ -6,7 +6,7 @@ use lib.Dec.{ltb, eqb}
 use Rattle.wire.specs.Faults.{codeOf}
 use Rattle.wire.specs.declared.fault.Fault.the-variants.{CheckSum}
 use Rattle.judge.specs.declared.deed.Deed.{Deed}
-use Rattle.judge.specs.declared.deed.Deed.the-variants.{Nothing, Store, Reset, Restart, Calibrate, Forget, Unlock, Freeze, Aim1, Aim2, ClearStatic, Release}
+use Rattle.judge.specs.declared.deed.Deed.the-variants.{Nothing, Store, Reset, Restart, Calibrate, Forget, Unlock, Freeze, Aim1, Aim2, ClearStatic, Release, Offer, Withdraw}
 use Rattle.judge.specs.declared.verdict.Verdict.{Verdict}
 use Rattle.judge.specs.declared.verdict.Verdict.the-variants.{Obeyed, Silent, Refused}
 use Rattle.state.specs.declared.parts.ErrorList.{ErrorList}
@@ -70,3 +70,5 @@ faultsBy (Aim1 v word) last f = acknowledgedOf word last f
 faultsBy (Aim2 v word) last f = acknowledgedOf word last f
 faultsBy ClearStatic last f = f
 faultsBy Release last f = f
+faultsBy (Offer n) last f = f
+faultsBy Withdraw last f = f

@@ -6,7 +6,7 @@ use mathlib.Core.Bool.{true, false, cond}
 use mathlib.Core.List.{List}
 use lib.IntN.{ℤ, pos}
 use Rattle.judge.specs.declared.deed.Deed.{Deed}
-use Rattle.judge.specs.declared.deed.Deed.the-variants.{Nothing, Store, Reset, Restart, Calibrate, Forget, Unlock, Freeze, Aim1, Aim2, ClearStatic, Release}
+use Rattle.judge.specs.declared.deed.Deed.the-variants.{Nothing, Store, Reset, Restart, Calibrate, Forget, Unlock, Freeze, Aim1, Aim2, ClearStatic, Release, Offer, Withdraw}
 use Rattle.state.specs.declared.parts.Measurement.{Measurement}
 use Rattle.state.specs.Settings.{valueAt, calibrationPlace}
 use Rattle.state.specs.Position.{viewOf}
@@ -73,3 +73,5 @@ measurementBy (Aim1 v word) vs g = g
 measurementBy (Aim2 v word) vs g = g
 measurementBy ClearStatic vs g = g
 measurementBy Release vs g = releasedOf g
+measurementBy (Offer n) vs g = g
+measurementBy Withdraw vs g = g

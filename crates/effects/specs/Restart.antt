@@ -1,4 +1,5 @@
--- The restart, and a head as it is made (document 01, "Restart (A0h 9, power)" of "What each one does").
+-- The restart, and a head as it is made (document 01, "Restart (A0h 9, power)" of "What each one does"; Auto-ID: document 02, request
+-- (ii)).
 -- Assumes nothing.
 use Prim.Native.Nat.{ℕ}
 use mathlib.Core.Bool.{true, false}
@@ -14,7 +15,7 @@ use Rattle.state.specs.declared.parts.Monitor.{Monitor}
 use Rattle.state.specs.declared.parts.Ear.{Ear}
 use Rattle.state.specs.Settings.{nodePlace}
 use Rattle.state.specs.Errors.{emptyList}
-use Rattle.effects.specs.Stored.{restartedStored}
+use Rattle.effects.specs.Stored.{adoptedStored, restartedStored}
 use Rattle.effects.specs.Faults.{restartedFaults}
 use Rattle.effects.specs.Measured.{restartedMeasurement}
 use Rattle.effects.specs.Aimed.{noTargets}
@@ -39,6 +40,23 @@ restartedOf h =
       keys = 0;
     }
 
+-- the head with another stored part
+abbrev pub withStored : Head → Stored → Head
+withStored h s =
+    record {
+      stored = s;
+      faults = h .faults;
+      measurement = h .measurement;
+      targets = h .targets;
+      monitor = h .monitor;
+      ear = h .ear;
+      keys = h .keys;
+    }
+
+-- Auto-ID: the number that is offered is stored, and the head restarts last
+unfoldable pub adoptedOf : Head → Head
+adoptedOf h = restartedOf (withStored h (adoptedStored (h .stored)))
+
 -- the delivery values; that of 00h is the number given when the head is made
 unfoldable pub deliveredOf : ℕ → List ℕ
 deliveredOf node = set (map delivery rows) nodePlace node
@@ -47,7 +65,7 @@ deliveredOf node = set (map delivery rows) nodePlace node
 abbrev pub unpowered : ℕ → Head
 unpowered node =
     record {
-      stored = record { values = deliveredOf node; number = 0; baud = 0; unlocked = false };
+      stored = record { values = deliveredOf node; number = 0; baud = 0; offer = 0; unlocked = false };
       faults = record { memory = emptyList; inputs = emptyList; pending = 0; hit = 0; damaged = 0 };
       measurement = record { m = pos 0; zero = pos 0; adopted = 0; incremental = false; start = pos 0; frozen = false; kept = pos 0 };
       targets = noTargets;

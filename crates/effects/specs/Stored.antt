@@ -1,4 +1,4 @@
--- What a deed does to the stored part (document 01, "What each one does"). Demand 3 speaks of this part alone.
+-- What a deed does to the stored part (document 01, "What each one does"; an offer: document 02, request (ii)). Demand 3 speaks of this part alone.
 -- Assumes nothing.
 use Prim.Native.Nat.{ℕ, suc}
 use mathlib.Core.Bool.{Bool, cond, not, _&&_}
@@ -8,7 +8,7 @@ use lib.ListN.{set}
 use Rattle.rows.specs.Table.{rowOf, delivery}
 use Rattle.rows.specs.Resets.{resetsOf}
 use Rattle.judge.specs.declared.deed.Deed.{Deed}
-use Rattle.judge.specs.declared.deed.Deed.the-variants.{Nothing, Store, Reset, Restart, Calibrate, Forget, Unlock, Freeze, Aim1, Aim2, ClearStatic, Release}
+use Rattle.judge.specs.declared.deed.Deed.the-variants.{Nothing, Store, Reset, Restart, Calibrate, Forget, Unlock, Freeze, Aim1, Aim2, ClearStatic, Release, Offer, Withdraw}
 use Rattle.state.specs.declared.parts.Stored.{Stored}
 use Rattle.state.specs.Settings.{valueAt, nodePlace, baudPlace, interlockPlace}
 
@@ -17,10 +17,13 @@ unfoldable pub lockedOf : Stored → Bool
 lockedOf s = eqb (valueAt (s .values) interlockPlace) 1 && not (s .unlocked)
 
 abbrev pub withValues : Stored → List ℕ → Stored
-withValues s vs = record { values = vs; number = s .number; baud = s .baud; unlocked = s .unlocked }
+withValues s vs = record { values = vs; number = s .number; baud = s .baud; offer = s .offer; unlocked = s .unlocked }
 
 abbrev pub withLock : Stored → Bool → Stored
-withLock s b = record { values = s .values; number = s .number; baud = s .baud; unlocked = b }
+withLock s b = record { values = s .values; number = s .number; baud = s .baud; offer = s .offer; unlocked = b }
+
+abbrev pub withOffer : Stored → ℕ → Stored
+withOffer s n = record { values = s .values; number = s .number; baud = s .baud; offer = n; unlocked = s .unlocked }
 
 -- the value at a place after a system command: what the command touches takes its delivery value
 unfoldable pub resetValue : ℕ → ℕ → ℕ → ℕ
@@ -34,10 +37,14 @@ resetFrom i command (v ∷ vs) = resetValue command i v ∷ resetFrom (suc i) co
 unfoldable pub resetOf : ℕ → List ℕ → List ℕ
 resetOf command vs = resetFrom 0 command vs
 
--- a restart keeps the 39 and the interlock, and takes 00h and 01h into force
+-- Auto-ID: the number that is offered goes to 00h
+unfoldable pub adoptedStored : Stored → Stored
+adoptedStored s = withValues s (set (s .values) nodePlace (s .offer))
+
+-- a restart keeps the 39 and the interlock, takes 00h and 01h into force, and drops an offer
 unfoldable pub restartedStored : Stored → Stored
 restartedStored s =
-    record { values = s .values; number = valueAt (s .values) nodePlace; baud = valueAt (s .values) baudPlace; unlocked = s .unlocked }
+    record { values = s .values; number = valueAt (s .values) nodePlace; baud = valueAt (s .values) baudPlace; offer = 0; unlocked = s .unlocked }
 
 -- what a deed does to it; a restart is of the whole head, and comes after (Restart)
 unfoldable pub storedBy : Deed → Stored → Stored
@@ -53,3 +60,5 @@ storedBy (Aim1 v w) s = s
 storedBy (Aim2 v w) s = s
 storedBy ClearStatic s = s
 storedBy Release s = s
+storedBy (Offer n) s = withOffer s n
+storedBy Withdraw s = withOffer s 0

@@ -11,7 +11,7 @@ use state::parts::Monitor;
 use state::parts::Setting;
 use state::parts::Stored;
 ghost use mathlib.Core.Path.{_≡_};
-ghost use Rattle.effects.specs.Restart.{emptyEar, stopped, restartedOf, deliveredOf, freshOf};
+ghost use Rattle.effects.specs.Restart.{emptyEar, stopped, restartedOf, adoptedOf, deliveredOf, freshOf};
 
 // No bytes gathered.
 pub fn empty_ear(at: u32) -> Ear
@@ -49,6 +49,15 @@ pub fn restarted(h: Head) -> Head
     }
 }
 
+// Auto-ID: the number that is offered is stored, and the head restarts last.
+pub fn adopted(h: Head) -> Head
+    ensures { λ r. ⌜ r ≡ adoptedOf h ⌝ }
+{
+    let mut n = h;
+    n.stored = store::adopted(h.stored);
+    restarted(n)
+}
+
 // The delivery values, 00h being the number given.
 fn delivered(node: u32) -> [u32; 39]
     ensures { λ r. ⌜ r ≡ deliveredOf node ⌝ }
@@ -68,6 +77,7 @@ pub fn fresh(node: u32) -> Head
             values: delivered(node),
             number: 0,
             baud: 0,
+            offer: 0,
             unlocked: false,
         },
         faults: Faults {

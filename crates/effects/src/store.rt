@@ -1,10 +1,10 @@
-// The stored part: the 39 values, the number and the baud setting in force, the interlock.
+// The stored part: the 39 values, the number and the baud setting in force, the number that is offered, the interlock.
 use judge::deed::Deed;
 use state::parts::Setting;
 use state::parts::Stored;
 ghost use mathlib.Core.Path.{_≡_};
 ghost use mathlib.Core.Bool.{Bool};
-ghost use Rattle.effects.specs.Stored.{lockedOf, resetValue, resetOf, restartedStored, storedBy};
+ghost use Rattle.effects.specs.Stored.{lockedOf, resetValue, resetOf, adoptedStored, restartedStored, storedBy};
 
 // 0Eh is 1 and the interlock closed.
 pub fn locked(s: Stored) -> bool
@@ -39,7 +39,16 @@ pub(crate) fn reset(values: [u32; 39], command: u32) -> [u32; 39]
     v
 }
 
-// A restart takes 00h and 01h into force.
+// The number that is offered goes to 00h.
+pub(crate) fn adopted(s: Stored) -> Stored
+    ensures { λ r. ⌜ r ≡ adoptedStored s ⌝ }
+{
+    let mut n = s;
+    n.values[Setting::NODE] = s.offer;
+    n
+}
+
+// A restart takes 00h and 01h into force, and drops an offer.
 pub fn restarted(s: Stored) -> Stored
     ensures { λ r. ⌜ r ≡ restartedStored s ⌝ }
 {
@@ -47,6 +56,7 @@ pub fn restarted(s: Stored) -> Stored
     let v = n.values;
     n.number = v[Setting::NODE];
     n.baud = v[Setting::BAUD];
+    n.offer = 0;
     n
 }
 
@@ -68,6 +78,14 @@ pub fn stored_by(d: Deed, s: Stored) -> Stored
         }
         Deed::Unlock(b) => {
             n.unlocked = b;
+            n
+        }
+        Deed::Offer(number) => {
+            n.offer = number;
+            n
+        }
+        Deed::Withdraw => {
+            n.offer = 0;
             n
         }
         _ => n,

@@ -4,9 +4,11 @@
 use Prim.Native.Nat.{ℕ}
 use native.Mathlib.Omega.{arith}
 use mathlib.Core.Path.{_≡_, refl}
-use mathlib.Core.Bool.{true, false, cond}
+use mathlib.Core.Bool.{true, false, cond, _&&_}
 use mathlib.Core.List.{List}
+use lib.Dec.{eqb}
 use Rattle.wire.specs.declared.telegram.Telegram.{Telegram}
+use Rattle.wire.specs.declared.fault.Fault.{Fault}
 use Rattle.wire.specs.Check.{hitOf}
 use Rattle.wire.specs.Telegram.{fieldsOf}
 use Rattle.rows.specs.declared.kind.Kind.{Kind}
@@ -14,6 +16,7 @@ use Rattle.rows.specs.declared.kind.Kind.the-variants.{WriteOnly}
 use Rattle.rows.specs.declared.kind.Order.the-variants.{System}
 use Rattle.rows.specs.Table.{rows, placeOf}
 use Rattle.rows.specs.Kinds.{otherOf, kindOf}
+use Rattle.rows.proofs.Groups.{either}
 use Rattle.judge.specs.declared.command.Command.{Command}
 use Rattle.judge.specs.declared.deed.Deed.{Deed}
 use Rattle.judge.specs.declared.deed.Deed.the-variants.{Restart}
@@ -23,7 +26,7 @@ use Rattle.judge.specs.declared.verdict.Verdict.the-variants.{Obeyed, Silent, R
 use Rattle.judge.specs.declared.verdict.Standing.{Standing}
 use Rattle.judge.specs.Commands.{changesOf}
 use Rattle.judge.specs.Verdicts.{verdictOf}
-use Rattle.judge.specs.Deeds.{systemOf, doneBy, deedOf}
+use Rattle.judge.specs.Deeds.{systemOf, doneBy, outOfRange, refusedBy, deedOf}
 use Rattle.judge.specs.Judged.{judgedOf}
 use Rattle.judge.proofs.Laws.{obeyed-sound}
 use Rattle.state.specs.declared.parts.Head.{Head}
@@ -52,11 +55,20 @@ module _ (j : Judged) (h : Head) (t : ℕ) where
   told-ear =
       elim (restartsOf (j .deed)) as (λ b. cond b (restartedOf (affectedOf j h t)) (affectedOf j h t) .ear ≡ emptyEar (cond b 0 t)) [ true ↦ refl | false ↦ refl ]
 
+  pub told-keys : toldOf j h t .keys ≡ cond (restartsOf (j .deed)) 0 (h .keys)
+  unfolding toldOf restartedOf
+  told-keys =
+      elim (restartsOf (j .deed)) as (λ b. cond b (restartedOf (affectedOf j h t)) (affectedOf j h t) .keys ≡ cond b 0 (h .keys)) [ true ↦ refl | false ↦ refl ]
+
+refused-never : (f : Fault) (a : ℕ) → refusedBy f a ≡ Restart → _≡_ {A = ℕ} 0 1
+unfolding refusedBy
+refused-never f a = either (λ d. d ≡ Restart → _≡_ {A = ℕ} 0 1) (outOfRange f && eqb a 0xD2) (λ _ e. cc) (λ e. cc)
+
 restart-obeyed : (v : Verdict) (c : Command) (k : Kind) (t : Telegram) → deedOf v c k t ≡ Restart → v ≡ Obeyed
 unfolding deedOf
 restart-obeyed Obeyed c k t e = refl
 restart-obeyed Silent c k t e = let z : _≡_ {A = ℕ} 0 1 = cc in absurd (omega arith)
-restart-obeyed (Refused f) c k t e = let z : _≡_ {A = ℕ} 0 1 = cc in absurd (omega arith)
+restart-obeyed (Refused f) c k t e = let z = refused-never f (t .parameter) e in absurd (omega arith)
 
 -- such a telegram is obeyed, so it is sound, and what it did before the restart, the count of damaged ones back to 0, the restart does too
 pub restart-told : (ten : List ℕ) (s : Standing) (h : Head) (t : ℕ) → judgedOf ten s .deed ≡ Restart → toldOf (judgedOf ten s) h t ≡ restartedOf h

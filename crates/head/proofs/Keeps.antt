@@ -2,39 +2,43 @@
 -- Assumes nothing.
 use Prim.Native.Nat.{ℕ}
 use native.Mathlib.Omega.{arith}
-use mathlib.Core.Path.{_≡_, refl}
-use mathlib.Core.Bool.{Bool, true, false, not, _&&_}
+use mathlib.Core.Path.{_≡_, refl, _∙_, ap}
+use mathlib.Core.Bool.{Bool, true, false, cond, not, _&&_, and-eq-true-iff}
 use mathlib.Core.List.{List}
-use borrow.Author.Tests.{ltb-true, leb-true}
+use borrow.Author.Tests.{ltb-true, leb-true, not-true}
 use lib.Dec.{leb, ltb, eqb}
 use lib.IntN.{ℤ}
 use Rattle.wire.specs.Check.{hitOf}
 use Rattle.wire.specs.Faults.{codeOf}
 use Rattle.wire.specs.declared.fault.Fault.the-variants.{Timeout}
 use Rattle.wire.specs.Telegram.{fieldsOf}
-use Rattle.rows.specs.Table.{rowOf}
-use Rattle.rows.specs.Ranges.{fitsIn}
 use Rattle.rows.proofs.Laws.{node-fits}
-use Rattle.judge.specs.declared.deed.Deed.the-variants.{Store}
 use Rattle.judge.specs.declared.judged.Judged.{Judged}
 use Rattle.judge.specs.Judged.{judgedOf}
-use Rattle.judge.proofs.Laws.{stored-fits}
+use Rattle.judge.proofs.Allowed.{Allowed, deed-allowed}
 use Rattle.state.specs.declared.parts.Head.{Head}
+use Rattle.state.specs.declared.parts.Stored.{Stored}
 use Rattle.state.specs.declared.parts.Ear.{Ear}
 use Rattle.state.specs.Settings.{valueAt, timeoutPlace, calibrationKeyPlace, incrementalKeyPlace}
 use Rattle.state.specs.Wellformed.{inReachOf, earFits, wellformedOf}
 use Rattle.state.proofs.Laws.{told, holds, stored-told, ear-holds}
 use Rattle.effects.specs.Restart.{emptyEar, restartedOf, freshOf}
-use Rattle.effects.proofs.Keeps.{either, stored-keeps, counted-keeps, complained-keeps, faults-keeps, raised-keeps, calibrated-keeps, switched-keeps, moved-keeps, measurement-keeps, empty-ear-fits, pending-keeps, restarted-keeps, fresh-keeps}
+use Rattle.effects.proofs.Keeps.{either, stored-keeps, counted-keeps, complained-keeps, faults-keeps, raised-keeps, calibrated-keeps, switched-keeps, moved-keeps, measurement-keeps, empty-ear-fits, pending-keeps, restarted-keeps, adopted-keeps, fresh-keeps}
+use Rattle.head.specs.declared.hear.Stepped.{Stepped}
 use Rattle.head.specs.Hear.{elapsedOf, keptEar, oneMore, gatheredOn, gatheredOf, standingOf, restartsOf, affectedOf, toldOf, tellOf, withEar, stepBy, stepOf}
-use Rattle.head.specs.Moves.{overdueOf, tickedOf, measuredOf, leftKey, upKey, pressedOf, leftOf, upOf, keyedOf}
+use Rattle.head.specs.Moves.{overdueOf, tickedOf, measuredOf, withKeys, leftKey, upKey, pressedOf, leftOf, upOf, leftTaken, adoptsOf, keyedOf}
 use Rattle.head.specs.Calls.{nodeFits, factoryOf}
+
+-- what holds of both ways of a test holds of it
+same : (P : Head → Type 0) (b : Bool) {x y : Head} → P x → P y → P (cond b x y)
+same P true p q = p
+same P false p q = q
 
 abbrev Fit : Head → Type 0
 Fit h = wellformedOf h ≡ true
 
 -- ---- a telegram
-affected-fits : (j : Judged) (h : Head) (at : ℕ) → ((i w : ℕ) → j .deed ≡ Store i w → fitsIn (rowOf i) w ≡ true) → Fit h → Fit (affectedOf j h at)
+affected-fits : (j : Judged) (h : Head) (at : ℕ) → Allowed (h .stored .number) (j .deed) → Fit h → Fit (affectedOf j h at)
 affected-fits j h at s f =
     let w = told h f in
     holds (affectedOf j h at)
@@ -46,7 +50,7 @@ affected-fits j h at s f =
       keys = w .keys;
     })
 
-told-fits : (j : Judged) (h : Head) (at : ℕ) → ((i w : ℕ) → j .deed ≡ Store i w → fitsIn (rowOf i) w ≡ true) → Fit h → Fit (toldOf j h at)
+told-fits : (j : Judged) (h : Head) (at : ℕ) → Allowed (h .stored .number) (j .deed) → Fit h → Fit (toldOf j h at)
 unfolding toldOf
 told-fits j h at s f =
     let a = affected-fits j h at s f in
@@ -63,9 +67,9 @@ ear-fits h e k f =
     holds (withEar h e) (record { stored = w .stored; faults = w .faults; measurement = w .measurement; ear = k; keys = w .keys })
 
 tell-fits : (h : Head) (ten : List ℕ) (at : ℕ) → Fit h → Fit (tellOf h ten at .head)
-unfolding tellOf judgedOf
+unfolding tellOf judgedOf standingOf
 tell-fits h ten at f =
-    told-fits (judgedOf ten (standingOf h)) h at (λ i w e. stored-fits (hitOf ten) (fieldsOf ten) (standingOf h) e .1) f
+    told-fits (judgedOf ten (standingOf h)) h at (deed-allowed (hitOf ten) (fieldsOf ten) (standingOf h)) f
 
 by-fits : (h : Head) (b at : ℕ) (e : Ear) → earFits e ≡ true → Fit h → Fit (stepBy h (gatheredOn e b at) at .head)
 by-fits h b at e k f = go (ltb (e .count) 9) refl
@@ -114,13 +118,20 @@ up-fits on h f =
     (λ t. holds _ (record { stored = w .stored; faults = w .faults; measurement = switched-keeps (h .measurement) (w .measurement); ear = w .ear; keys = w .keys }))
     f
 
-pub keys-fits : (h : Head) (k : ℕ) → leb k 7 ≡ true → wellformedOf h ≡ true → wellformedOf (keyedOf h k) ≡ true
+-- left leaves the stored part and the bytes gathered as they are
+pub left-stored : (on : Bool) (h : Head) → leftOf on h .stored ≡ h .stored
+unfolding leftOf
+left-stored on h =
+    same (λ x. x .stored ≡ h .stored) on (same (λ x. x .stored ≡ h .stored) (not (eqb (h .faults .pending) 0)) refl (same (λ x. x .stored ≡ h .stored) (eqb (valueAt (h .stored .values) calibrationKeyPlace) 1) refl refl)) refl
+
+pub keys-fits : (h : Head) (k : ℕ) → leb k 7 ≡ true → wellformedOf h ≡ true → wellformedOf (keyedOf h k .head) ≡ true
 unfolding keyedOf
 keys-fits h k r f =
     let w = told h f in
-    up-fits (pressedOf k (h .keys) upKey) _
-    (left-fits (pressedOf k (h .keys) leftKey) _
-    (holds _ (record { stored = w .stored; faults = w .faults; measurement = w .measurement; ear = w .ear; keys = leb-true k 7 r })))
+    let l : Fit (leftTaken h k) = left-fits (pressedOf k (h .keys) leftKey) _ (holds _ (record { stored = w .stored; faults = w .faults; measurement = w .measurement; ear = w .ear; keys = leb-true k 7 r })) in
+    either (λ (s : Stepped). wellformedOf (s .head)) (adoptsOf h k) _ _
+    (λ t. adopted-keeps (leftTaken h k) (ap (λ (s : Stored). eqb (s .offer) 0) (left-stored _ (withKeys h k)) ∙ not-true (eqb (h .stored .offer) 0) (and-eq-true-iff (pressedOf k (h .keys) upKey) _ .0 t .1)) l)
+    (up-fits (pressedOf k (h .keys) upKey) _ l)
 
 pub restart-fits : (h : Head) → wellformedOf h ≡ true → wellformedOf (restartedOf h) ≡ true
 restart-fits h f = restarted-keeps h f

@@ -23,6 +23,12 @@ either P f x [] r d = d tt
 either P f x ((true, why) ∷ ts) r d = either P f x ts r (λ h. d (refl, h))
 either P f x ((false, why) ∷ ts) r d = r why
 
+-- a part of a call that is guarded is that part, guarded
+pub part : {C D : Type 0} (g : C → D) (f : Refusal → C) (x : C) (ts : Tests) → g (guarded f ts x) ≡ guarded (λ why. g (f why)) ts (g x)
+part g f x [] = refl
+part g f x ((true, why) ∷ ts) = part g f x ts
+part g f x ((false, why) ∷ ts) = refl
+
 -- what a call says of itself: nothing where it is done, its reason where it is refused
 pub says : {C : Type 0} (o : C → Option Refusal) (f : Refusal → C) (x : C) (ts : Tests)
     → ((why : Refusal) → o (f why) ≡ some why) → o x ≡ none → o (guarded f ts x) ≡ failed ts

@@ -1,7 +1,7 @@
 -- The calls on a head and their refusals (document 01, "The line, and calls refused"): 20 goes before all others.
 -- Assumes nothing.
 use Prim.Native.Nat.{ℕ}
-use mathlib.Core.Bool.{Bool, cond}
+use mathlib.Core.Bool.{Bool, cond, not}
 use mathlib.Core.List.{List, [], _∷_, _++_}
 use lib.Dec.{leb, ltb}
 use lib.IntN.{ℤ}
@@ -60,33 +60,48 @@ madeOf node = cond (nodeFits node) (doneWith (freshOf node)) (refusedWith factor
 unfoldable pub laidOn : List ℕ → List ℕ → List ℕ
 laidOn space x = cond (ltb (length space) 10) space (x ++ drop 10 space)
 
--- a byte: the number of replies, told apart from a refusal
+-- what a head did with a byte or a key state: the number of replies, told apart from a refusal
 abbrev pub fedWith : Stepped → Fed
 fedWith s = record { head = s .head; heard = heard.Replies (cond (s .replied) 1 0) }
 
 abbrev pub unfed : Head → Refusal → Fed
 unfed h why = record { head = h; heard = heard.Refused why }
 
-unfoldable pub byteOf : Head → ℕ → ℕ → ℕ → Fed
-byteOf h b at room =
-    cond (wellformedOf h) (cond (ltb room 10) (unfed h Space) (fedWith (stepOf h b at))) (unfed h Malformed)
-
 -- with one reply it stands in the first ten bytes; with none, or refused, no byte changes
 abbrev pub spaceWith : Stepped → List ℕ → List ℕ
 spaceWith s space = cond (s .replied) (laidOn space (s .reply)) space
 
+-- a call on a head that lends space: 20, then its own tests, then 6 for a space under ten bytes; where all hold, what the head does
+abbrev pub lentTests : Head → Tests → ℕ → Tests
+lentTests h own room = (wellformedOf h, Malformed) ∷ (own ++ ((not (ltb room 10), Space) ∷ []))
+
+abbrev pub lentOf : Head → Tests → ℕ → Stepped → Fed
+lentOf h own room s = guarded (unfed h) (lentTests h own room) (fedWith s)
+
+abbrev pub lentSpace : Head → Tests → List ℕ → Stepped → List ℕ
+lentSpace h own space s = guarded (λ why. space) (lentTests h own (length space)) (spaceWith s space)
+
+unfoldable pub byteOf : Head → ℕ → ℕ → ℕ → Fed
+byteOf h b at room = lentOf h [] room (stepOf h b at)
+
 unfoldable pub byteSpaceOf : Head → ℕ → ℕ → List ℕ → List ℕ
-byteSpaceOf h b at space =
-    cond (wellformedOf h) (cond (ltb (length space) 10) space (spaceWith (stepOf h b at) space)) space
+byteSpaceOf h b at space = lentSpace h [] space (stepOf h b at)
+
+-- a key state: 5 before 6
+abbrev pub keysTests : ℕ → Tests
+keysTests state = (leb state 7, Keys) ∷ []
+
+unfoldable pub keysOf : Head → ℕ → ℕ → Fed
+keysOf h state room = lentOf h (keysTests state) room (keyedOf h state)
+
+unfoldable pub keysSpaceOf : Head → ℕ → List ℕ → List ℕ
+keysSpaceOf h state space = lentSpace h (keysTests state) space (keyedOf h state)
 
 unfoldable pub tickOf : Head → ℕ → Called
 tickOf h at = askedOf h [] (tickedOf h at)
 
 unfoldable pub measureOf : Head → ℤ → Called
 measureOf h m = askedOf h ((inReachOf m, OutOfReach) ∷ []) (measuredOf h m)
-
-unfoldable pub keysOf : Head → ℕ → Called
-keysOf h state = askedOf h ((leb state 7, Keys) ∷ []) (keyedOf h state)
 
 -- power: a restart
 unfoldable pub powerOf : Head → Called

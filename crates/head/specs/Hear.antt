@@ -8,7 +8,7 @@ use lib.Dec.{eqb, ltb}
 use lib.ListN.{getD, set, replicate}
 use Rattle.wire.specs.Check.{hitOf}
 use Rattle.judge.specs.declared.deed.Deed.{Deed}
-use Rattle.judge.specs.declared.deed.Deed.the-variants.{Nothing, Store, Reset, Restart, Calibrate, Forget, Unlock, Freeze, Aim1, Aim2, ClearStatic, Release}
+use Rattle.judge.specs.declared.deed.Deed.the-variants.{Nothing, Store, Reset, Restart, Calibrate, Forget, Unlock, Freeze, Aim1, Aim2, ClearStatic, Release, Offer, Withdraw}
 use Rattle.judge.specs.declared.judged.Judged.{Judged}
 use Rattle.judge.specs.declared.verdict.Standing.{Standing}
 use Rattle.judge.specs.Judged.{judgedOf}
@@ -64,6 +64,8 @@ restartsOf (Aim1 v word) = false
 restartsOf (Aim2 v word) = false
 restartsOf ClearStatic = false
 restartsOf Release = false
+restartsOf (Offer n) = false
+restartsOf Withdraw = false
 
 -- a sound telegram, for whomever, starts the monitor
 unfoldable pub startedOf : ℕ → ℕ → Monitor → Monitor

@@ -1,9 +1,11 @@
--- What a tick, a measurement and a key state do to a head (document 01, "Times and keys", "Position and status").
+-- What a tick, a measurement and a key state do to a head (document 01, "Times and keys", "Position and status"; a number that is
+-- offered: document 02, request (ii)).
 -- Assumes nothing.
 use Prim.Native.Nat.{ℕ, _*_, _/_, _%_}
-use mathlib.Core.Bool.{Bool, cond, not, _&&_}
+use mathlib.Core.Bool.{Bool, true, false, cond, not, _&&_}
 use lib.Dec.{leb, ltb, eqb}
 use lib.IntN.{ℤ}
+use lib.ListN.{replicate}
 use Rattle.wire.specs.Faults.{codeOf}
 use Rattle.wire.specs.declared.fault.Fault.the-variants.{Timeout}
 use Rattle.state.specs.declared.parts.Head.{Head}
@@ -12,10 +14,13 @@ use Rattle.state.specs.declared.parts.Measurement.{Measurement}
 use Rattle.state.specs.declared.parts.Targets.{Targets}
 use Rattle.state.specs.declared.parts.Monitor.{Monitor}
 use Rattle.state.specs.Settings.{valueAt, timeoutPlace, calibrationKeyPlace, incrementalKeyPlace}
+use Rattle.state.specs.Status.{statusOf}
 use Rattle.effects.specs.Faults.{raisedOf, withPending}
 use Rattle.effects.specs.Measured.{calibratedOf, switchedOf, movedOf}
 use Rattle.effects.specs.Aimed.{settledOf}
-use Rattle.effects.specs.Restart.{stopped}
+use Rattle.effects.specs.Restart.{stopped, adoptedOf}
+use Rattle.reply.specs.Reply.{adoptionOf}
+use Rattle.head.specs.declared.hear.Stepped.{Stepped}
 use Rattle.head.specs.Hear.{elapsedOf}
 
 -- the head with other parts
@@ -81,6 +86,18 @@ unfoldable pub upOf : Bool → Head → Head
 upOf on h =
     cond (on && eqb (valueAt (h .stored .values) incrementalKeyPlace) 1) (withMeasurement h (switchedOf (h .measurement))) h
 
--- left is taken before up
-unfoldable pub keyedOf : Head → ℕ → Head
-keyedOf h keys = upOf (pressedOf keys (h .keys) upKey) (leftOf (pressedOf keys (h .keys) leftKey) (withKeys h keys))
+-- left is taken before up: the head with its new key state, once left is taken
+abbrev pub leftTaken : Head → ℕ → Head
+leftTaken h keys = leftOf (pressedOf keys (h .keys) leftKey) (withKeys h keys)
+
+-- up newly pressed where a number is offered
+abbrev pub adoptsOf : Head → ℕ → Bool
+adoptsOf h keys = pressedOf keys (h .keys) upKey && not (eqb (h .stored .offer) 0)
+
+-- adopts it, and does not switch incremental: the head sends a write's reply, with the status word of before the call, and restarts last. Else
+-- up is taken, and there is no reply
+unfoldable pub keyedOf : Head → ℕ → Stepped
+keyedOf h keys =
+    cond (adoptsOf h keys)
+    (record { head = adoptedOf (leftTaken h keys); replied = true; reply = adoptionOf (statusOf h) (h .stored .offer) })
+    (record { head = upOf (pressedOf keys (h .keys) upKey) (leftTaken h keys); replied = false; reply = replicate 10 0 })

@@ -3,51 +3,47 @@
 use Prim.Native.Nat.{ℕ}
 use mathlib.Core.List.{List, [], _∷_}
 use mathlib.Core.Option.{Option, none, some}
-use lib.Dec.{leb}
 use lib.IntN.{ℤ}
 use lib.ListN.{length}
 use Rattle.state.specs.declared.parts.Head.{Head}
 use Rattle.state.specs.Wellformed.{inReachOf}
 use Rattle.effects.specs.Restart.{restartedOf}
 use Rattle.head.specs.declared.refusal.Refusal.{Refusal}
-use Rattle.head.specs.declared.refusal.Refusal.the-variants.{OutOfReach, Keys}
+use Rattle.head.specs.declared.refusal.Refusal.the-variants.{OutOfReach}
 use Rattle.head.specs.declared.calls.Answer.{Answer}
 use Rattle.head.specs.declared.calls.Answer.the-variants as answer
 use Rattle.head.specs.declared.calls.Called.{Called}
 use Rattle.head.specs.declared.calls.Heard.{Heard}
 use Rattle.head.specs.declared.calls.Heard.the-variants as heard
-use Rattle.head.specs.Moves.{tickedOf, measuredOf, keyedOf}
-use Rattle.head.specs.Calls.{Tests, byteOf, byteSpaceOf, tickOf, measureOf, keysOf, powerOf}
+use Rattle.head.specs.Moves.{tickedOf, measuredOf}
+use Rattle.head.specs.Calls.{Tests, byteOf, byteSpaceOf, tickOf, measureOf, keysOf, keysSpaceOf, powerOf}
 
--- ---- what is asked of a head with no space lent: a tick, a measurement, a key state, power
+-- ---- what is asked of a head with no space lent: a tick, a measurement, power
 pub data Ask : Type 0 where
   tick : ℕ → Ask
   measure : ℤ → Ask
-  keys : ℕ → Ask
   power : Ask
 
 -- the call; its own tests, after 20; the head that it makes where they hold
 unfoldable pub called : Ask → Head → Called
 called (tick at) h = tickOf h at
 called (measure m) h = measureOf h m
-called (keys k) h = keysOf h k
 called power h = powerOf h
 
 unfoldable pub own : Ask → Tests
 own (tick at) = []
 own (measure m) = (inReachOf m, OutOfReach) ∷ []
-own (keys k) = (leb k 7, Keys) ∷ []
 own power = []
 
 unfoldable pub next : Ask → Head → Head
 next (tick at) h = tickedOf h at
 next (measure m) h = measuredOf h m
-next (keys k) h = keyedOf h k
 next power h = restartedOf h
 
--- ---- every call: a byte at a time, with the space lent, or what is asked with none
+-- ---- every call: a byte at a time, or a key state, with the space lent, or what is asked with none
 pub data Call : Type 0 where
   byte : ℕ → ℕ → List ℕ → Call
+  keys : ℕ → List ℕ → Call
   asked : Ask → Call
 
 abbrev pub ofAnswer : Answer → Option Refusal
@@ -61,18 +57,22 @@ ofHeard (heard.Refused why) = some why
 -- why the call is refused, if it is
 abbrev pub refusalBy : Call → Head → Option Refusal
 refusalBy (byte b at space) h = ofHeard (byteOf h b at (length space) .heard)
+refusalBy (keys k space) h = ofHeard (keysOf h k (length space) .heard)
 refusalBy (asked a) h = ofAnswer (called a h .answer)
 
 -- the head afterwards
 abbrev pub headAfter : Call → Head → Head
 headAfter (byte b at space) h = byteOf h b at (length space) .head
+headAfter (keys k space) h = keysOf h k (length space) .head
 headAfter (asked a) h = called a h .head
 
 -- the lent space before and afterwards; a call that lends none has none
 abbrev pub lentBy : Call → List ℕ
 lentBy (byte b at space) = space
+lentBy (keys k space) = space
 lentBy (asked a) = []
 
 abbrev pub spaceAfter : Call → Head → List ℕ
 spaceAfter (byte b at space) h = byteSpaceOf h b at space
+spaceAfter (keys k space) h = keysSpaceOf h k space
 spaceAfter (asked a) h = []

@@ -1,5 +1,6 @@
 // The calls on a head. Each looks first whether the head handed in is well-formed, then refuses by the document's numbers, then works.
 use crate::hear;
+use crate::hear::Stepped;
 use crate::moves;
 use crate::refusal::Refusal;
 use effects::restart;
@@ -10,7 +11,7 @@ ghost use mathlib.Core.Bool.{Bool};
 ghost use Prim.Native.Nat.{_≤_};
 ghost use lib.ListN.{length};
 ghost use Rattle.effects.specs.Restart.{freshOf};
-ghost use Rattle.head.specs.Calls.{nodeFits, factoryOf, madeOf, doneWith, refusedWith, laidOn, byteOf, byteSpaceOf, tickOf, measureOf, keysOf, powerOf, lastHitOf};
+ghost use Rattle.head.specs.Calls.{nodeFits, factoryOf, madeOf, doneWith, refusedWith, laidOn, fedWith, unfed, spaceWith, byteOf, byteSpaceOf, tickOf, measureOf, keysOf, keysSpaceOf, powerOf, lastHitOf};
 
 pub enum Answer {
     Done,
@@ -84,6 +85,35 @@ pub fn lay(space: &mut [u8], x: [u8; 10])
     }
 }
 
+// What a head did, with its reply laid, if there is one; and a call that was refused.
+fn fed_with(s: Stepped, space: &mut [u8]) -> Fed
+    ensures { λ r. ⌜ r ≡ fedWith s ⌝ }
+    ensures { λ r. ⌜ now (space .exit) ≡ spaceWith s (now (space .entry)) ⌝ }
+{
+    let n = s.head;
+    if s.replied {
+        let x = s.reply;
+        lay(space, x);
+        return Fed {
+            head: n,
+            heard: Heard::Replies(1),
+        };
+    }
+    Fed {
+        head: n,
+        heard: Heard::Replies(0),
+    }
+}
+
+fn unfed(h: Head, why: Refusal) -> Fed
+    ensures { λ r. ⌜ r ≡ unfed h why ⌝ }
+{
+    Fed {
+        head: h,
+        heard: Heard::Refused(why),
+    }
+}
+
 // A byte, with lent reply space.
 pub fn byte(h: Head, b: u8, at: u32, space: &mut [u8]) -> Fed
     ensures { λ r. ⌜ r ≡ byteOf h b at (length (now (space .entry))) ⌝ }
@@ -91,30 +121,11 @@ pub fn byte(h: Head, b: u8, at: u32, space: &mut [u8]) -> Fed
 {
     if wellformed::wellformed(h) {
         if space.len() < 10 {
-            return Fed {
-                head: h,
-                heard: Heard::Refused(Refusal::Space),
-            };
+            return unfed(h, Refusal::Space);
         }
-        let s = hear::step(h, b, at);
-        let n = s.head;
-        if s.replied {
-            let x = s.reply;
-            lay(space, x);
-            return Fed {
-                head: n,
-                heard: Heard::Replies(1),
-            };
-        }
-        return Fed {
-            head: n,
-            heard: Heard::Replies(0),
-        };
+        return fed_with(hear::step(h, b, at), space);
     }
-    Fed {
-        head: h,
-        heard: Heard::Refused(Refusal::Malformed),
-    }
+    unfed(h, Refusal::Malformed)
 }
 
 fn done(h: Head) -> Called
@@ -156,16 +167,21 @@ pub fn measure(h: Head, m: i32) -> Called
     refused(h, Refusal::Malformed)
 }
 
-pub fn keys(h: Head, state: u32) -> Called
-    ensures { λ r. ⌜ r ≡ keysOf h state ⌝ }
+// A key state, with lent reply space: a head that adopts a number says so.
+pub fn keys(h: Head, state: u32, space: &mut [u8]) -> Fed
+    ensures { λ r. ⌜ r ≡ keysOf h state (length (now (space .entry))) ⌝ }
+    ensures { λ r. ⌜ now (space .exit) ≡ keysSpaceOf h state (now (space .entry)) ⌝ }
 {
     if wellformed::wellformed(h) {
         if state <= 7 {
-            return done(moves::keyed(h, state));
+            if space.len() < 10 {
+                return unfed(h, Refusal::Space);
+            }
+            return fed_with(moves::keyed(h, state), space);
         }
-        return refused(h, Refusal::Keys);
+        return unfed(h, Refusal::Keys);
     }
-    refused(h, Refusal::Malformed)
+    unfed(h, Refusal::Malformed)
 }
 
 pub fn power(h: Head) -> Called

@@ -132,7 +132,7 @@ fn told(j: Judged, h: Head, at: u32) -> Head
     n
 }
 
-// What a head does with a byte or a telegram: the head after it, and the reply if there is one.
+// What a head does with a byte, a telegram or a key state: the head after it, and the reply if there is one.
 #[repr(C)]
 pub struct Stepped {
     pub head: Head,

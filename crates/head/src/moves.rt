@@ -1,11 +1,13 @@
 // What a tick, a measurement and a key state do to a head.
 use crate::hear;
+use crate::hear::Stepped;
 use effects::aim;
 use effects::errors;
 use effects::measure;
 use effects::restart;
 use state::parts::Head;
 use state::parts::Setting;
+use state::status;
 use wire::fault::Fault;
 ghost use mathlib.Core.Path.{_≡_};
 ghost use mathlib.Core.Bool.{Bool};
@@ -86,7 +88,7 @@ fn left(on: bool, h: Head) -> Head
     n
 }
 
-// Up, where it is newly pressed, switches incremental measurement if 35h is 1.
+// Up, where it is newly pressed and no number is offered, switches incremental measurement if 35h is 1.
 fn up(on: bool, h: Head) -> Head
     ensures { λ r. ⌜ r ≡ upOf on h ⌝ }
 {
@@ -100,15 +102,29 @@ fn up(on: bool, h: Head) -> Head
     n
 }
 
-// A key state: left is taken before up, each when newly pressed.
-pub fn keyed(h: Head, keys: u32) -> Head
+// A key state: left is taken before up, each when newly pressed. Where a number is offered, up adopts it: the head says so with the status word
+// of before, and restarts.
+pub fn keyed(h: Head, keys: u32) -> Stepped
     ensures { λ r. ⌜ r ≡ keyedOf h keys ⌝ }
 {
     let before = h.keys;
+    let offer = h.stored.offer;
+    let on = pressed(keys, before, UP);
     let mut n = h;
     n.keys = keys;
-    up(
-        pressed(keys, before, UP),
-        left(pressed(keys, before, LEFT), n),
-    )
+    n = left(pressed(keys, before, LEFT), n);
+    if on & (offer != 0) {
+        let x = reply::adoption(status::status(h), offer);
+        return Stepped {
+            head: restart::adopted(n),
+            replied: true,
+            reply: x,
+        };
+    }
+    let none = [0u8; 10];
+    Stepped {
+        head: up(on, n),
+        replied: false,
+        reply: none,
+    }
 }

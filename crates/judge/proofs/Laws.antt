@@ -1,10 +1,10 @@
--- What holds of every verdict and every deed: who is answered, what is obeyed, what is stored.
+-- What holds of every verdict: who is answered, what is obeyed.
 -- Assumes nothing.
 use mathlib.Core.Path.{_≡_, refl, sym, _∙_, ap}
 use mathlib.Core.Bool.{Bool, true, false, cond, not, _&&_, _||_, and-assoc, and-eq-true-iff, true≢false}
 use mathlib.Core.List.{[], _∷_}
 use mathlib.Core.Logic.{_⊎_, inl, inr, ⊎-elim}
-use Prim.Native.Nat.{ℕ, _<_}
+use Prim.Native.Nat.{ℕ}
 use borrow.Author.Tests.{eqb-true}
 use lib.Dec.{eqb, ltb}
 use types.Run.{OneOf, miss}
@@ -16,23 +16,17 @@ use Rattle.wire.specs.Word.{byte0}
 use Rattle.rows.specs.declared.access.Access.{Access}
 use Rattle.rows.specs.declared.range.Range.{Range}
 use Rattle.rows.specs.declared.range.Range.the-variants.{Right, Low, High, Between}
-use Rattle.rows.specs.Table.{rowOf}
-use Rattle.rows.specs.Kinds.{kindOf}
-use Rattle.rows.specs.Ranges.{rangeOf, isRight, fitsIn}
+use Rattle.rows.specs.Ranges.{rangeOf, isRight}
 use Rattle.rows.specs.Access.{accessOf, broadcastOf}
-use Rattle.rows.proofs.Laws.{place-below, range-fits}
 use Rattle.judge.specs.declared.command.Command.{Command}
 use Rattle.judge.specs.declared.command.Command.the-variants.{Read, Write, Broadcast, Other}
 use Rattle.judge.specs.declared.verdict.Verdict.{Verdict}
 use Rattle.judge.specs.declared.verdict.Verdict.the-variants.{Obeyed, Silent, Refused}
 use Rattle.judge.specs.declared.verdict.Standing.{Standing}
-use Rattle.judge.specs.declared.deed.Deed.the-variants.{Store}
-use Rattle.judge.specs.Commands.{commandOf, castsOf, changesOf}
-use Rattle.judge.specs.Checks.{_else_, sumCheck, nodeCheck, commandCheck, parameterCheck, accessCheck, lockableOf, lockCheck, rangeCheck, valueCheck, numberCheck, hushOf}
+use Rattle.judge.specs.Commands.{commandOf, readsOf, writesOf, castsOf, changesOf}
+use Rattle.judge.specs.Checks.{_else_, sumCheck, nodeCheck, commandCheck, parameterCheck, accessCheck, lockableOf, lockCheck, stateCheck, rangeCheck, valueCheck, numberCheck, hushOf}
 use Rattle.judge.specs.Verdicts.{lateOf, mineOf, verdictOf}
-use Rattle.judge.specs.Deeds.{deedOf}
 use Rattle.judge.proofs.verdict.Verdict.{the-type}
-use Rattle.judge.proofs.Stores.{stored-place, stored-by}
 
 -- ---- the first check that applies decides
 pub else-assoc : (a b c : Verdict) → (a else b) else c ≡ a else (b else c)
@@ -88,16 +82,20 @@ pub cast-never-refused : (hit : ℕ) (t : Telegram) (s : Standing) (f : Fault) �
     commandOf (t .command) ≡ Broadcast → verdictOf hit t s ≡ Refused f → ⊥
 cast-never-refused hit t s f c h = true≢false (sym (rw (c, refused-mine hit t s h) at (refused-plain hit t s h)))
 
--- ---- a command is a broadcast just if its byte is 02h
-pub casts-is : (c : ℕ) → castsOf (commandOf c) ≡ eqb c 2
+-- ---- what a command is, by its byte
+pub command-is : (c : ℕ) → (readsOf (commandOf c) ≡ eqb c 0) × (writesOf (commandOf c) ≡ eqb c 1) × (castsOf (commandOf c) ≡ eqb c 2)
 unfolding commandOf
-casts-is c = go (eqb c 0) (eqb c 1) (eqb c 2) refl refl refl
+command-is c = go (eqb c 0) (eqb c 1) (eqb c 2) refl refl refl
   where
-    go : (x y z : Bool) → eqb c 0 ≡ x → eqb c 1 ≡ y → eqb c 2 ≡ z → castsOf (commandOf c) ≡ eqb c 2
-    go true y z p q r = rw (eqb-true c 0 p)
-    go false true z p q r = rw (eqb-true c 1 q)
-    go false false true p q r = rw (p, q, r)
-    go false false false p q r = rw (p, q, r)
+    go : (x y z : Bool) → eqb c 0 ≡ x → eqb c 1 ≡ y → eqb c 2 ≡ z
+        → (readsOf (commandOf c) ≡ eqb c 0) × (writesOf (commandOf c) ≡ eqb c 1) × (castsOf (commandOf c) ≡ eqb c 2)
+    go true y z p q r = rw (eqb-true c 0 p) (refl, refl, refl)
+    go false true z p q r = rw (eqb-true c 1 q) (refl, refl, refl)
+    go false false true p q r = rw (p, q, r) (refl, refl, refl)
+    go false false false p q r = rw (p, q, r) (refl, refl, refl)
+
+pub casts-is : (c : ℕ) → castsOf (commandOf c) ≡ eqb c 2
+casts-is c = command-is c .2
 
 -- ---- a telegram is obeyed where each check lets it pass
 abbrev pub isObeyed : Verdict → Bool
@@ -146,6 +144,10 @@ value-is true High = refl
 value-is true Between = refl
 value-is false g = refl
 
+twice : (b : Bool) → not (not b) ≡ true → b ≡ true
+twice true h = refl
+twice false h = h
+
 right-only : (g : Range) → isRight g ≡ true → g ≡ Right
 right-only Right h = refl
 right-only Low h = cc
@@ -164,9 +166,12 @@ module _ (hit : ℕ) (t : Telegram) (s : Standing) where
   abbrev allowed : Bool
   allowed = isObeyed (commandCheck c) && (isObeyed (parameterCheck group) && isObeyed (accessCheck c group (broadcastOf (t .parameter))))
 
-  -- check 6, and the two of check 7
+  -- the two of check 6, and the two of check 7
   abbrev unlocked : Bool
   unlocked = not (s .locked && (changesOf c && lockableOf (t .parameter)))
+
+  abbrev unnumbered : Bool
+  unnumbered = changesOf c && (eqb (t .parameter) 0xD2 && not (eqb (s .number) 31))
 
   abbrev right : Bool
   right = not (changesOf c) || isRight (rangeOf (t .parameter) (t .value))
@@ -174,17 +179,18 @@ module _ (hit : ℕ) (t : Telegram) (s : Standing) where
   abbrev counted : Bool
   counted = not (eqb (t .parameter) 0x96 && ltb (s .inputs) (byte0 (t .value)))
 
-  pub obeyed-is : isObeyed (verdictOf hit t s) ≡ eqb hit 0 && ((castsOf c || mineOf t s) && (allowed && (unlocked && (right && counted))))
-  unfolding verdictOf lateOf lockCheck valueCheck numberCheck
+  pub obeyed-is : isObeyed (verdictOf hit t s) ≡ eqb hit 0 && ((castsOf c || mineOf t s) && (allowed && (unlocked && (not unnumbered && (right && counted)))))
+  unfolding verdictOf lateOf lockCheck stateCheck valueCheck numberCheck
   obeyed-is = simp (else-is, sum-is, node-is, hush-is, value-is, test-is, and-assoc)
 
   module _ (h : verdictOf hit t s ≡ Obeyed) where
-    tests : (eqb hit 0 ≡ true) × ((castsOf c || mineOf t s) ≡ true) × (right ≡ true)
+    tests : (eqb hit 0 ≡ true) × ((castsOf c || mineOf t s) ≡ true) × (not unnumbered ≡ true) × (right ≡ true)
     tests =
         let one = and-eq-true-iff (eqb hit 0) _ .0 (sym obeyed-is ∙ ap isObeyed h) in
         let two = and-eq-true-iff (castsOf c || mineOf t s) _ .0 (one .1) in
         let six = and-eq-true-iff unlocked _ .0 (and-eq-true-iff allowed _ .0 (two .1) .1) in
-        (one .0, two .0, and-eq-true-iff right _ .0 (six .1) .0)
+        let state = and-eq-true-iff (not unnumbered) _ .0 (six .1) in
+        (one .0, two .0, state .0, and-eq-true-iff right _ .0 (state .1) .0)
 
     pub obeyed-sound : hit ≡ 0
     obeyed-sound = eqb-true hit 0 (tests .0)
@@ -193,13 +199,8 @@ module _ (hit : ℕ) (t : Telegram) (s : Standing) where
     obeyed-mine = tests .1
 
     pub obeyed-range : changesOf c ≡ true → rangeOf (t .parameter) (t .value) ≡ Right
-    obeyed-range changes = right-only _ (rw changes at (tests .2))
+    obeyed-range changes = right-only _ (rw changes at (tests .3))
 
--- ---- what is stored lies in its row
-pub stored-fits : (hit : ℕ) (t : Telegram) (s : Standing) {i w : ℕ} →
-    deedOf (verdictOf hit t s) (commandOf (t .command)) (kindOf (t .parameter)) t ≡ Store i w →
-    (i < 39) × (fitsIn (rowOf i) w ≡ true)
-stored-fits hit t s {i} {w} h =
-    let d = stored-by i w _ _ _ t h in
-    let p = stored-place (t .parameter) (d .2) in
-    (place-below (t .parameter) p, rw (d .3) at (range-fits (t .parameter) (t .value) p (obeyed-range hit t s (d .0) (d .1))))
+    -- a number is offered to a head whose number in force is 31
+    pub obeyed-offer : changesOf c ≡ true → eqb (t .parameter) 0xD2 ≡ true → s .number ≡ 31
+    obeyed-offer changes is = eqb-true _ 31 (twice _ (rw (changes, is) at (tests .2)))

@@ -4,7 +4,7 @@ use Prim.Native.Nat.{ℕ}
 use mathlib.Core.Bool.{Bool, cond, not, _&&_, _||_}
 use lib.Dec.{eqb, ltb}
 use Rattle.wire.specs.declared.fault.Fault.{Fault}
-use Rattle.wire.specs.declared.fault.Fault.the-variants.{CheckSum, Unlisted, Below, Above, UnknownParameter, NoAccess, WriteRefused, ReadRefused, Locked}
+use Rattle.wire.specs.declared.fault.Fault.the-variants.{CheckSum, Unlisted, Below, Above, UnknownParameter, NoAccess, WriteRefused, ReadRefused, DeviceState, Locked}
 use Rattle.rows.specs.declared.access.Access.{Access}
 use Rattle.rows.specs.declared.access.Access.the-variants.{ReadWrite, ReadOnly, WriteOnly, Unknown}
 use Rattle.rows.specs.declared.range.Range.{Range}
@@ -62,6 +62,10 @@ lockableOf a = among stored a || eqb a 0xA0
 
 unfoldable pub lockCheck : Bool → Command → ℕ → Verdict
 lockCheck locked c a = cond (locked && (changesOf c && lockableOf a)) (Refused Locked) Obeyed
+
+-- 6. (document 02, request (ii)) a number is offered, by D2h, where the number in force is not 31
+unfoldable pub stateCheck : ℕ → Command → ℕ → Verdict
+stateCheck number c a = cond (changesOf c && (eqb a 0xD2 && not (eqb number 31))) (Refused DeviceState) Obeyed
 
 -- 7. value below low, above high, in between and not listed
 unfoldable pub rangeCheck : Range → Verdict

@@ -12,7 +12,7 @@ use Rattle.judge.specs.declared.command.Command.{Command}
 use Rattle.judge.specs.declared.verdict.Verdict.{Verdict}
 use Rattle.judge.specs.declared.verdict.Standing.{Standing}
 use Rattle.judge.specs.Commands.{commandOf}
-use Rattle.judge.specs.Checks.{_else_, sumCheck, nodeCheck, commandCheck, parameterCheck, accessCheck, lockCheck, valueCheck, numberCheck, hushOf}
+use Rattle.judge.specs.Checks.{_else_, sumCheck, nodeCheck, commandCheck, parameterCheck, accessCheck, lockCheck, stateCheck, valueCheck, numberCheck, hushOf}
 
 -- checks 3 to 7
 unfoldable pub lateOf : Telegram → Standing → Verdict
@@ -22,6 +22,7 @@ lateOf t s =
     else parameterCheck (accessOf (t .parameter))
     else accessCheck (commandOf (t .command)) (accessOf (t .parameter)) (broadcastOf (t .parameter))
     else lockCheck (s .locked) (commandOf (t .command)) (t .parameter)
+    else stateCheck (s .number) (commandOf (t .command)) (t .parameter)
     else valueCheck (commandOf (t .command)) (rangeOf (t .parameter) (t .value))
     else numberCheck (t .parameter) (byte0 (t .value)) (s .inputs))
 

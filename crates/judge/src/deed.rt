@@ -4,9 +4,10 @@ use crate::command::Command;
 use crate::verdict::Verdict;
 use rows::kind::Kind;
 use rows::kind::Order;
+use wire::fault::Fault;
 use wire::telegram::Telegram;
 ghost use mathlib.Core.Path.{_≡_};
-ghost use Rattle.judge.specs.Deeds.{systemOf, orderedBy, doneBy, shownBy, deedOf};
+ghost use Rattle.judge.specs.Deeds.{systemOf, orderedBy, doneBy, shownBy, refusedBy, deedOf};
 
 pub enum Deed {
     // Nothing: it was refused or not heard, or it only reads.
@@ -29,6 +30,10 @@ pub enum Deed {
     ClearStatic,
     // The position was read by FEh: a kept value is released.
     Release,
+    // The number is offered, by D2h: it is remembered until it is adopted.
+    Offer(u32),
+    // An offer outside its range: the one that is remembered is dropped.
+    Withdraw,
 }
 
 // A0h.
@@ -52,6 +57,7 @@ fn ordered_by(o: Order, value: u32) -> Deed
         Order::Calibration => Deed::Calibrate,
         Order::Interlock => Deed::Unlock(value == 1),
         Order::Freezing => Deed::Freeze,
+        Order::Assignment => Deed::Offer(value),
     }
 }
 
@@ -80,6 +86,17 @@ fn shown_by(address: u8) -> Deed
     }
 }
 
+// A telegram that is refused does nothing, save for an offer that is refused for its range.
+fn refused_by(f: Fault, address: u8) -> Deed
+    ensures { λ r. ⌜ r ≡ refusedBy f address ⌝ }
+{
+    let code = f.code();
+    if ((code == Fault::BELOW) | (code == Fault::ABOVE)) & (address == 0xD2) {
+        return Deed::Withdraw;
+    }
+    Deed::Nothing
+}
+
 pub fn deed_of(v: Verdict, c: Command, k: Kind, t: Telegram) -> Deed
     ensures { λ r. ⌜ r ≡ deedOf v c k t ⌝ }
 {
@@ -91,6 +108,6 @@ pub fn deed_of(v: Verdict, c: Command, k: Kind, t: Telegram) -> Deed
             shown_by(t.parameter)
         }
         Verdict::Silent => Deed::Nothing,
-        Verdict::Refused(_) => Deed::Nothing,
+        Verdict::Refused(f) => refused_by(f, t.parameter),
     }
 }

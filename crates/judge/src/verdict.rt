@@ -9,7 +9,7 @@ use wire::fault::Fault;
 use wire::telegram::Telegram;
 ghost use mathlib.Core.Path.{_≡_};
 ghost use mathlib.Core.Bool.{Bool};
-ghost use Rattle.judge.specs.Checks.{_else_, sumCheck, nodeCheck, commandCheck, parameterCheck, accessCheck, lockableOf, lockCheck, rangeCheck, valueCheck, numberCheck, hushOf};
+ghost use Rattle.judge.specs.Checks.{_else_, sumCheck, nodeCheck, commandCheck, parameterCheck, accessCheck, lockableOf, lockCheck, stateCheck, rangeCheck, valueCheck, numberCheck, hushOf};
 ghost use Rattle.judge.specs.Verdicts.{lateOf, verdictOf};
 
 pub enum Verdict {
@@ -132,6 +132,16 @@ fn check_lock(locked: bool, c: Command, address: u8) -> Verdict
     Verdict::Obeyed
 }
 
+// 6. A number is offered, by D2h, where the number in force is not 31.
+fn check_state(number: u32, c: Command, address: u8) -> Verdict
+    ensures { λ r. ⌜ r ≡ stateCheck number c address ⌝ }
+{
+    if command::changes(c) & ((address == 0xD2) & (number != 31)) {
+        return Verdict::Refused(Fault::DeviceState);
+    }
+    Verdict::Obeyed
+}
+
 fn check_range(g: Range) -> Verdict
     ensures { λ r. ⌜ r ≡ rangeCheck g ⌝ }
 {
@@ -187,9 +197,10 @@ fn late(t: Telegram, s: Standing) -> Verdict
     let known = check_parameter(a);
     let access = check_access(c, a, rows::access::broadcast(t.parameter));
     let lock = check_lock(s.locked, c, t.parameter);
+    let state = check_state(s.number, c, t.parameter);
     let value = check_value(c, rows::range::range_of(t.parameter, t.value));
     let number = check_number(t.parameter, wire::word::first(t.value), s.inputs);
-    let last = first(lock, first(value, number));
+    let last = first(lock, first(state, first(value, number)));
     hush(c, first(above, first(known, first(access, last))))
 }
 

@@ -15,14 +15,12 @@ use Rattle.state.specs.declared.parts.Head.{Head}
 use Rattle.state.specs.Wellformed.{wellformedOf}
 use Rattle.head.specs.declared.hear.Stepped.{Stepped}
 use Rattle.head.specs.Hear.{stepOf}
-use Rattle.head.specs.declared.refusal.Refusal.{Refusal}
 use Rattle.head.specs.declared.refusal.Refusal.the-variants.{Space, Malformed}
 use Rattle.head.specs.declared.calls.Heard.the-variants as heard
 use Rattle.line.specs.declared.round.Replies.{Replies}
 use Rattle.line.specs.declared.calls.Line.{Line}
-use Rattle.line.specs.declared.calls.Fed.{Fed}
 use Rattle.line.specs.Round.{each, allFit, steppedBy, saidBy, repliesOf, noReply, counted, laidFor}
-use Rattle.line.specs.Calls.{fitsOf, repliesAt, laidBy, byteOf, byteSpaceOf}
+use Rattle.line.specs.Calls.{unfed, fitsOf, repliesAt, laidBy, byteOf, byteSpaceOf}
 
 -- f at the ith element, after f at the first i
 pub each-turn : {A : Type 0} (f : A → A) (d : A) (i : ℕ) (xs : List A) → i < length xs
@@ -194,9 +192,6 @@ getD-either d e zero (x ∷ xs) p = refl
 getD-either d e (suc i) (x ∷ xs) p = getD-either d e i xs (le-of-suc-le-suc p)
 
 -- a byte for a line: the two refusals, and what is heard
-abbrev unfed : Line → Refusal → Fed
-unfed l why = record { line = l; heard = heard.Refused why }
-
 malformed : (l : Line) (b at : ℕ) (s : List ℕ) → fitsOf l ≡ false
     → (unfed l Malformed ≡ byteOf l b at (length s)) × (s ≡ byteSpaceOf l b at s)
 unfolding byteOf byteSpaceOf

@@ -2,7 +2,7 @@
 -- and a tick do to each head what they do to it alone, and a line that fits stays one.
 -- Assumes nothing.
 use Prim.Native.Nat.{ℕ, _+_, _<_, _≤_}
-use mathlib.Core.Path.{_≡_, refl, _∙_}
+use mathlib.Core.Path.{_≡_, refl, _∙_, ap}
 use mathlib.Core.Logic.{_≢_}
 use mathlib.Core.Bool.{Bool, true, false, cond, not}
 use mathlib.Core.List.{List, [], _∷_}
@@ -19,18 +19,23 @@ use Rattle.head.specs.declared.refusal.Refusal.{Refusal}
 use Rattle.head.specs.declared.refusal.Refusal.the-variants.{Node, Full, Space, Malformed}
 use Rattle.head.specs.declared.calls.Answer.the-variants as answer
 use Rattle.head.specs.declared.calls.Called as alone
+use Rattle.head.specs.declared.calls.Fed as lent
 use Rattle.head.specs.declared.calls.Heard.the-variants as heard
 use Rattle.head.specs.Hear.{stepOf}
 use Rattle.head.specs.Moves.{tickedOf}
+use Rattle.head.specs.Calls as head
 use Rattle.head.specs.Calls.{Tests, guarded, factoryOf, nodeFits}
-use Rattle.head.proofs.Tests.{Hold, either}
+use Rattle.head.specs.Outcome.{keys, ofHeard}
+use Rattle.head.proofs.Tests.{Hold, either, part}
+use Rattle.head.proofs.Asked.{lent-keys-fits, lent-keys-same}
+use Rattle.head.proofs.Refused.{refused-nothing}
 use Rattle.head.proofs.Keeps.{fresh-fits, factory-fits, step-fits, tick-fits}
 use Rattle.line.specs.declared.calls.Line.{Line}
 use Rattle.line.specs.declared.calls.Called.{Called}
 use Rattle.line.specs.declared.calls.Fed.{Fed}
 use Rattle.line.specs.Round.{each, allFit, steppedBy, tickedAt}
 use Rattle.line.specs.Calls.{emptyOf, fitsOf, doneWith, refusedWith, headAt, placedOf, grownBy, growOf}
-use Rattle.line.specs.Calls.{repliesAt, heardBy, byteOf, laidBy, byteSpaceOf, tickOf, putBack, namedTests, namedOf}
+use Rattle.line.specs.Calls.{repliesAt, heardBy, byteOf, laidBy, byteSpaceOf, tickOf, putBack, namedTests, namedOf, unfed, putBackFed, keysOf, keysSpaceOf}
 use Rattle.line.proofs.Laws.{each-here, each-length, fit-each, fit-set, fit-grown, fits-small, fits-heads, fits-eight, fit-at, set-back}
 
 -- ---- which refusal, exactly when: the tests of each call in their order
@@ -42,9 +47,6 @@ byteTests l room = (fitsOf l, Malformed) ∷ (not (ltb room 10), Space) ∷ []
 
 abbrev pub tickTests : Line → Tests
 tickTests l = (fitsOf l, Malformed) ∷ []
-
-abbrev pub unfed : Line → Refusal → Fed
-unfed l why = record { line = l; heard = heard.Refused why }
 
 abbrev pub tickedBy : Line → ℕ → Line
 tickedBy l at = record { heads = each (tickedAt at) (l .count) (l .heads); count = l .count }
@@ -77,6 +79,17 @@ module _ (l : Line) where
   unfolding namedOf
   named-when i c = refl
 
+  -- the line after a call that names a head, of which the call on that head alone makes h
+  abbrev pub namedLine : ℕ → Head → Line
+  namedLine i h = guarded (λ why. l) (namedTests l i) (placedOf l i h)
+
+  pub named-line : (i : ℕ) (c : alone.Called) → namedOf l i c .line ≡ namedLine i (c .head)
+  named-line i c = rw (named-when i c) (part (λ (x : Called). x .line) (refusedWith l) (putBack l i c) (namedTests l i))
+
+  pub keys-line : (i s room : ℕ) → keysOf l i s room .line ≡ namedLine i (head.keysOf (headAt l i) s room .head)
+  unfolding keysOf
+  keys-line i s room = part (λ (x : Fed). x .line) (unfed l) (putBackFed l i (head.keysOf (headAt l i) s room)) (namedTests l i)
+
 -- ---- a refused call leaves the line as it was
 abbrev pub Untouched : Line → Called → Type 0
 Untouched l c = (why : Refusal) → c .answer ≡ answer.Refused why → c .line ≡ l
@@ -100,7 +113,31 @@ module _ (l : Line) where
       (either (Untouched l) (refusedWith l) (putBack l i c) (namedTests l i) (λ w why e. refl)
       (λ h why e. rw (k why e, set-back factoryOf i (l .heads))))
 
-  -- and a refused byte the space too
+  -- a refused key state too
+  pub keys-refused : (i s room : ℕ) (why : Refusal) → keysOf l i s room .heard ≡ heard.Refused why → keysOf l i s room .line ≡ l
+  unfolding keysOf placedOf
+  keys-refused i s room why = go (namedTests l i)
+    where
+      f : lent.Fed
+      f = head.keysOf (headAt l i) s room
+
+      go : (ts : Tests) → guarded (unfed l) ts (putBackFed l i f) .heard ≡ heard.Refused why → guarded (unfed l) ts (putBackFed l i f) .line ≡ l
+      go [] e = rw (lent-keys-same (headAt l i) s room (ap ofHeard e), set-back factoryOf i (l .heads))
+      go ((true, w) ∷ ts) e = go ts e
+      go ((false, w) ∷ ts) e = refl
+
+  -- and the space with it
+  pub keys-spared : (i s : ℕ) (space : List ℕ) (why : Refusal) → keysOf l i s (length space) .heard ≡ heard.Refused why → keysSpaceOf l i s space ≡ space
+  unfolding keysOf keysSpaceOf
+  keys-spared i s space why = go (namedTests l i)
+    where
+      go : (ts : Tests) → guarded (unfed l) ts (putBackFed l i (head.keysOf (headAt l i) s (length space))) .heard ≡ heard.Refused why
+          → guarded (λ w. space) ts (head.keysSpaceOf (headAt l i) s space) ≡ space
+      go [] e = refused-nothing (keys s space) (headAt l i) (ap ofHeard e) .space
+      go ((true, w) ∷ ts) e = go ts e
+      go ((false, w) ∷ ts) e = refl
+
+  -- and a refused byte both
   pub byte-refused : (b at : ℕ) (space : List ℕ) (why : Refusal) → byteOf l b at (length space) .heard ≡ heard.Refused why
       → (byteOf l b at (length space) .line ≡ l) × (byteSpaceOf l b at space ≡ space)
   byte-refused b at space why =
@@ -116,12 +153,17 @@ module _ (l : Line) where
 abbrev pub OnlyAt : Line → ℕ → Line → Type 0
 OnlyAt l i k = (k .count ≡ l .count) × ((j : ℕ) → j ≢ i → headAt k j ≡ headAt l j)
 
-pub named-one : (l : Line) (i : ℕ) (c : alone.Called) → OnlyAt l i (namedOf l i c .line)
+named-only : (l : Line) (i : ℕ) (h : Head) → OnlyAt l i (namedLine l i h)
 unfolding placedOf
-named-one l i c =
-    rw (named-when l i c)
-    (either (λ (x : Called). OnlyAt l i (x .line)) (refusedWith l) (putBack l i c) (namedTests l i) (λ why. (refl, λ j n. refl))
-    (λ h. (refl, λ j n. getD-set-other (l .heads) i j (c .head) factoryOf n)))
+named-only l i h =
+    either (λ (k : Line). OnlyAt l i k) (λ why. l) (placedOf l i h) (namedTests l i) (λ why. (refl, λ j n. refl))
+    (λ _. (refl, λ j n. getD-set-other (l .heads) i j h factoryOf n))
+
+pub named-one : (l : Line) (i : ℕ) (c : alone.Called) → OnlyAt l i (namedOf l i c .line)
+named-one l i c = rw (named-line l i c) (named-only l i (c .head))
+
+pub keys-one : (l : Line) (i s room : ℕ) → OnlyAt l i (keysOf l i s room .line)
+keys-one l i s room = rw (keys-line l i s room) (named-only l i (head.keysOf (headAt l i) s room .head))
 
 -- a new head changes no other
 pub grow-others : (l : Line) (node j : ℕ) → j ≢ l .count → headAt (growOf l node .line) j ≡ headAt l j
@@ -150,6 +192,15 @@ module _ (l : Line) (f : fitsOf l ≡ true) (e : length (l .heads) ≡ 8) where
     pub named-there : (c : alone.Called) → (namedOf l i c .answer ≡ c .answer) × (headAt (namedOf l i c .line) i ≡ c .head)
     unfolding namedOf placedOf
     named-there c = (rw (f, lt-ltb _ _ p), rw (f, lt-ltb _ _ p) (getD-set-same (l .heads) i (c .head) factoryOf (here i p)))
+
+    pub keys-there : (s room : ℕ) → let alone = head.keysOf (headAt l i) s room in
+        (keysOf l i s room .heard ≡ alone .heard) × (headAt (keysOf l i s room .line) i ≡ alone .head)
+    unfolding keysOf placedOf
+    keys-there s room = (rw (f, lt-ltb _ _ p), rw (f, lt-ltb _ _ p) (getD-set-same (l .heads) i _ factoryOf (here i p)))
+
+    pub keys-lays : (s : ℕ) (space : List ℕ) → keysSpaceOf l i s space ≡ head.keysSpaceOf (headAt l i) s space
+    unfolding keysSpaceOf
+    keys-lays s space = rw (f, lt-ltb _ _ p)
 
     pub tick-alone : (at : ℕ) → headAt (tickOf l at .line) i ≡ tickedOf (headAt l i) at
     unfolding tickOf
@@ -218,8 +269,11 @@ module _ (l : Line) where
       rw (tick-when l at) (kept (tickTests l) (tickedBy l at) (λ h. each-kept (tickedAt at) (λ x. tick-fits x at)))
 
   -- where the call on the head alone keeps it well-formed
+  named-kept : (i : ℕ) (h : Head) → (wellformedOf (headAt l i) ≡ true → wellformedOf h ≡ true) → Kept l (namedLine l i h)
+  named-kept i h k = either (λ (x : Line). Kept l x) (λ why. l) (placedOf l i h) (namedTests l i) (λ why. (λ f. f, refl)) (λ t. placed-kept i h (t .1 .0) k)
+
   pub named-keeps : (i : ℕ) (c : alone.Called) → (wellformedOf (headAt l i) ≡ true → wellformedOf (c .head) ≡ true) → Kept l (namedOf l i c .line)
-  named-keeps i c k =
-      rw (named-when l i c)
-      (either (λ (x : Called). Kept l (x .line)) (refusedWith l) (putBack l i c) (namedTests l i) (λ why. (λ f. f, refl))
-      (λ h. placed-kept i (c .head) (h .1 .0) k))
+  named-keeps i c k = rw (named-line l i c) (named-kept i (c .head) k)
+
+  pub keys-keeps : (i s room : ℕ) → Kept l (keysOf l i s room .line)
+  keys-keeps i s room = rw (keys-line l i s room) (named-kept i _ (lent-keys-fits (headAt l i) s room))

@@ -1,4 +1,4 @@
--- The calls on a line and their refusals (document 01, "The line, and calls refused").
+-- The calls on a line and their refusals (document 01, "The line, and calls refused"; keys: document 02, request (ii)).
 -- Assumes nothing.
 use Prim.Native.Nat.{ℕ, _+_}
 use mathlib.Core.Bool.{Bool, cond, _&&_}
@@ -13,6 +13,7 @@ use Rattle.head.specs.declared.refusal.Refusal.the-variants.{Node, Full, NoHead
 use Rattle.head.specs.declared.calls.Answer.the-variants as answer
 use Rattle.head.specs.declared.calls.Heard.the-variants as heard
 use Rattle.head.specs.declared.calls.Called as alone
+use Rattle.head.specs.declared.calls.Fed as lent
 use Rattle.head.specs.declared.calls.Hit.{Hit}
 use Rattle.head.specs.declared.calls.Hit.the-variants as hit
 use Rattle.head.specs.Calls as head
@@ -28,6 +29,9 @@ doneWith l = record { line = l; answer = answer.Done }
 
 abbrev pub refusedWith : Line → Refusal → Called
 refusedWith l why = record { line = l; answer = answer.Refused why }
+
+abbrev pub unfed : Line → Refusal → Fed
+unfed l why = record { line = l; heard = heard.Refused why }
 
 -- a line with no head; what stands in a place past the count does not matter
 unfoldable pub emptyOf : Line
@@ -64,9 +68,9 @@ heardBy l b at = record { heads = each (steppedBy b at) (l .count) (l .heads); c
 unfoldable pub byteOf : Line → ℕ → ℕ → ℕ → Fed
 byteOf l b at room =
     cond (fitsOf l)
-    (cond (ltb room 10) (record { line = l; heard = heard.Refused Space })
+    (cond (ltb room 10) (unfed l Space)
     (record { line = heardBy l b at; heard = heard.Replies (length (repliesAt l b at)) }))
-    (record { line = l; heard = heard.Refused Malformed })
+    (unfed l Malformed)
 
 -- exactly one reply stands in the first ten bytes and the rest is unchanged; otherwise no byte changes
 abbrev pub laidBy : List (List ℕ) → List ℕ → List ℕ
@@ -97,8 +101,15 @@ namedOf l i c = guarded (refusedWith l) (namedTests l i) (putBack l i c)
 unfoldable pub measureOf : Line → ℕ → ℤ → Called
 measureOf l i m = namedOf l i (head.measureOf (headAt l i) m)
 
-unfoldable pub keysOf : Line → ℕ → ℕ → Called
-keysOf l i state = namedOf l i (head.keysOf (headAt l i) state)
+-- a key state of one head, with the space that is lent: the same, and the space is as that head alone leaves it
+abbrev pub putBackFed : Line → ℕ → lent.Fed → Fed
+putBackFed l i f = record { line = placedOf l i (f .head); heard = f .heard }
+
+unfoldable pub keysOf : Line → ℕ → ℕ → ℕ → Fed
+keysOf l i state room = guarded (unfed l) (namedTests l i) (putBackFed l i (head.keysOf (headAt l i) state room))
+
+unfoldable pub keysSpaceOf : Line → ℕ → ℕ → List ℕ → List ℕ
+keysSpaceOf l i state space = guarded (λ why. space) (namedTests l i) (head.keysSpaceOf (headAt l i) state space)
 
 unfoldable pub powerOf : Line → ℕ → Called
 powerOf l i = namedOf l i (head.powerOf (headAt l i))

@@ -1,4 +1,4 @@
-// The calls on a line. 20 goes before all other refusals, 2 before 1, 3 before 4 and 5.
+// The calls on a line. 20 goes before all other refusals, 2 before 1, 3 before 4, 5 and 6.
 use crate::round;
 use effects::restart;
 use head::calls;
@@ -13,7 +13,7 @@ use state::wellformed;
 ghost use mathlib.Core.Path.{_≡_};
 ghost use mathlib.Core.Bool.{Bool};
 ghost use lib.ListN.{length};
-ghost use Rattle.line.specs.Calls.{emptyOf, fitsOf, doneWith, refusedWith, headAt, placedOf, growOf, byteOf, byteSpaceOf, tickOf, namedOf, measureOf, keysOf, powerOf, lastHitOf};
+ghost use Rattle.line.specs.Calls.{emptyOf, fitsOf, doneWith, refusedWith, headAt, placedOf, growOf, byteOf, byteSpaceOf, tickOf, namedOf, measureOf, unfed, keysOf, keysSpaceOf, powerOf, lastHitOf};
 
 // Eight places for heads, of which the first `count` are on the wire.
 #[repr(C)]
@@ -222,11 +222,32 @@ pub fn measure(l: Line, i: usize, m: i32) -> Called
     named(l, i, calls::measure(head_at(l, i), m))
 }
 
-// A key state of one head.
-pub fn keys(l: Line, i: usize, state: u32) -> Called
-    ensures { λ r. ⌜ r ≡ keysOf l i state ⌝ }
+fn unfed(l: Line, why: Refusal) -> Fed
+    ensures { λ r. ⌜ r ≡ unfed l why ⌝ }
 {
-    named(l, i, calls::keys(head_at(l, i), state))
+    Fed {
+        line: l,
+        heard: Heard::Refused(why),
+    }
+}
+
+// A key state of one head, with lent reply space: 20, then 3, then what the head alone makes of both.
+pub fn keys(l: Line, i: usize, state: u32, space: &mut [u8]) -> Fed
+    ensures { λ r. ⌜ r ≡ keysOf l i state (length (now (space .entry))) ⌝ }
+    ensures { λ r. ⌜ now (space .exit) ≡ keysSpaceOf l i state (now (space .entry)) ⌝ }
+{
+    if fits(l) {
+        if i < l.count {
+            let f = calls::keys(head_at(l, i), state, space);
+            let heard = f.heard;
+            return Fed {
+                line: placed(l, i, f.head),
+                heard: heard,
+            };
+        }
+        return unfed(l, Refusal::NoHead);
+    }
+    unfed(l, Refusal::Malformed)
 }
 
 // Power off and on at one head.

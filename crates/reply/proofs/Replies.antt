@@ -2,12 +2,14 @@
 -- Assumes nothing.
 use Prim.Native.Nat.{ℕ}
 use mathlib.Core.Path.{_≡_, refl}
-use mathlib.Core.Bool.{true, false}
+use mathlib.Core.Bool.{true, false, not}
+use lib.Dec.{eqb}
 use lib.ListN.{length}
 use Rattle.wire.specs.declared.telegram.Telegram.{Telegram}
 use Rattle.wire.specs.declared.fault.Fault.{Fault}
 use Rattle.wire.specs.Check.{hitOf}
 use Rattle.wire.proofs.Laws.{built-sound, built-ten}
+use Rattle.rows.proofs.Groups.{either}
 use Rattle.judge.specs.declared.command.Command.{Command}
 use Rattle.judge.specs.declared.command.Command.the-variants.{Read, Write, Broadcast, Other}
 use Rattle.judge.specs.declared.judged.Judged.{Judged}
@@ -16,7 +18,7 @@ use Rattle.judge.specs.declared.verdict.Verdict.the-variants.{Obeyed, Silent, R
 use Rattle.judge.specs.Commands.{castsOf}
 use Rattle.state.specs.declared.parts.Head.{Head}
 use Rattle.reply.specs.declared.Said.{Said}
-use Rattle.reply.specs.Reply.{silence, fieldsSaid, said, errorReply, valueReply, replyBy, replyOf}
+use Rattle.reply.specs.Reply.{silence, fieldsSaid, said, errorReply, valueReply, replyBy, replyOf, adoptionOf}
 
 -- silence is no reply, and whatever is said passes the check; either has ten bytes
 abbrev Passes : Said → Type 0
@@ -47,7 +49,7 @@ module _ (P : Said → Type 0) (quiet : P silence) (loud : (t : Telegram) (param
   value-has : (c : Command) (j : Judged) (h : Head) (word : ℕ) → j .command ≡ c → P (valueReply j h word)
   unfolding valueReply
   value-has Read j h word e = rw e (loud _ _ _ _)
-  value-has Write j h word e = rw e (loud _ _ _ _)
+  value-has Write j h word e = rw e (either P (not (eqb (j .telegram .parameter) 0xD2)) (λ _. loud _ _ _ _) quiet)
   value-has Broadcast j h word e = rw e quiet
   value-has Other j h word e = rw e quiet
 
@@ -67,6 +69,15 @@ reply-sound = reply-has Passes silence-passes said-passes
 
 pub reply-ten : (j : Judged) (h : Head) (word : ℕ) → length (replyOf j h word .reply) ≡ 10
 reply-ten = reply-has Ten silence-ten said-ten
+
+-- so does what a head sends that adopts a number
+pub adoption-sound : (word number : ℕ) → hitOf (adoptionOf word number) ≡ 0
+unfolding adoptionOf
+adoption-sound word number = built-sound _
+
+pub adoption-ten : (word number : ℕ) → length (adoptionOf word number) ≡ 10
+unfolding adoptionOf
+adoption-ten word number = built-ten _
 
 module _ (j : Judged) (h : Head) (word : ℕ) where
   -- a silent head does not reply

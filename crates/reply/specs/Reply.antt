@@ -1,8 +1,8 @@
--- What a head answers (document 01, "Ten bytes", "A telegram's way through the head", "What each one does"). The status word that the
--- reply carries is an argument.
+-- What a head answers (document 01, "Ten bytes", "A telegram's way through the head", "What each one does"; D2h: document 02, request (ii)).
+-- The status word that the reply carries is an argument.
 -- Assumes nothing.
 use Prim.Native.Nat.{ℕ, _+_, _-_, _*_}
-use mathlib.Core.Bool.{Bool, true, false, cond}
+use mathlib.Core.Bool.{Bool, true, false, cond, not, _&&_}
 use mathlib.Core.List.{List}
 use lib.Dec.{eqb}
 use lib.ListN.{replicate}
@@ -84,11 +84,11 @@ said t parameter word value = record { replied = true; reply = bytesOf (fieldsSa
 unfoldable pub errorReply : Telegram → ℕ → Fault → Said
 errorReply t word fault = said t 0xFD word (codeOf fault)
 
--- a read is answered with its data, a write with its answer, a broadcast never
+-- a read is answered with its data, a write with its answer, a broadcast never; nor is a number that is offered by D2h
 unfoldable pub valueReply : Judged → Head → ℕ → Said
 valueReply j h word =
     cond (readsOf (j .command)) (said (j .telegram) (j .telegram .parameter) word (readOf (j .kind) h (j .telegram .value)))
-    (cond (writesOf (j .command)) (said (j .telegram) (j .telegram .parameter) word (answerOf (j .telegram .parameter) h (j .telegram .value))) silence)
+    (cond (writesOf (j .command) && not (eqb (j .telegram .parameter) 0xD2)) (said (j .telegram) (j .telegram .parameter) word (answerOf (j .telegram .parameter) h (j .telegram .value))) silence)
 
 abbrev pub replyBy : Verdict → Judged → Head → ℕ → Said
 replyBy Obeyed j h word = valueReply j h word
@@ -97,3 +97,7 @@ replyBy (Refused fault) j h word = errorReply (j .telegram) word fault
 
 unfoldable pub replyOf : Judged → Head → ℕ → Said
 replyOf j h word = replyBy (j .verdict) j h word
+
+-- Auto-ID: what a head sends that adopts the number it was offered: a write's reply with node 31, parameter D2h and the new number as data
+unfoldable pub adoptionOf : ℕ → ℕ → List ℕ
+adoptionOf word number = bytesOf (record { command = 1; node = 31; parameter = 0xD2; word = word; value = number })

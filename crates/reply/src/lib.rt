@@ -16,7 +16,7 @@ use wire::telegram::Telegram;
 ghost use mathlib.Core.Path.{_≡_};
 ghost use mathlib.Core.Bool.{Bool};
 ghost use Rattle.state.specs.Settings.{valueAt};
-ghost use Rattle.reply.specs.Reply.{inputOf, positionWord, showsOf, readOf, setPointAnswer, answerOf, said, silence, errorReply, valueReply, replyOf};
+ghost use Rattle.reply.specs.Reply.{inputOf, positionWord, showsOf, readOf, setPointAnswer, answerOf, said, silence, errorReply, valueReply, replyOf, adoptionOf};
 
 // A reply, if there is one.
 #[repr(C)]
@@ -148,7 +148,7 @@ fn saying(t: Telegram, parameter: u8, word: u16, value: u32) -> Said
     }
 }
 
-// Of an obeyed telegram: a read's data, a write's answer, and no answer to a broadcast.
+// Of an obeyed telegram: a read's data, a write's answer, and no answer to a broadcast, nor to a number that is offered by D2h.
 fn value_reply(j: Judged, h: Head, word: u16) -> Said
     ensures { λ r. ⌜ r ≡ valueReply j h word ⌝ }
 {
@@ -159,7 +159,7 @@ fn value_reply(j: Judged, h: Head, word: u16) -> Said
         let x = read(k, h, t.value);
         return saying(t, t.parameter, word, x);
     }
-    if command::writes(c) {
+    if command::writes(c) & (t.parameter != 0xD2) {
         let x = answer(t.parameter, h, t.value);
         return saying(t, t.parameter, word, x);
     }
@@ -179,4 +179,17 @@ pub fn reply_to(j: Judged, h: Head, word: u16) -> Said
         }
         Verdict::Obeyed => value_reply(j, h, word),
     }
+}
+
+// Auto-ID: what a head sends that adopts the number it was offered, a write's reply with this status word.
+pub fn adoption(word: u16, number: u32) -> [u8; 10]
+    ensures { λ r. ⌜ r ≡ adoptionOf word number ⌝ }
+{
+    telegram::bytes(Telegram {
+        command: 1,
+        node: 31,
+        parameter: 0xD2,
+        word: word,
+        value: number,
+    })
 }

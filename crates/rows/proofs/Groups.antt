@@ -16,7 +16,7 @@ use Rattle.rows.specs.declared.kind.Kind.the-variants as kind
 use Rattle.rows.specs.declared.kind.Shown.{Shown}
 use Rattle.rows.specs.declared.kind.Shown.the-variants.{Identification, Version, ErrorCount, ErrorAt, InputErrors, StatusWord, Differential, Pending, Position}
 use Rattle.rows.specs.declared.kind.Order.{Order}
-use Rattle.rows.specs.declared.kind.Order.the-variants.{System, Calibration, Interlock, Freezing}
+use Rattle.rows.specs.declared.kind.Order.the-variants.{System, Calibration, Interlock, Freezing, Assignment}
 use Rattle.rows.specs.declared.table.Place.{Place}
 use Rattle.rows.specs.declared.table.Place.the-variants.{At, Nowhere}
 use Rattle.rows.specs.Among.{among}
@@ -78,7 +78,7 @@ same x a t = sym (back-code x) ∙ ap back (eqb→eq (code x) (code (accessOf a)
 
 -- the single numbers of the three arms, as the compiler keeps them, the last arm's first
 abbrev pub keys : List (List ℕ)
-keys = (160 ∷ 170 ∷ []) ∷ (101 ∷ 103 ∷ 150 ∷ 250 ∷ []) ∷ (40 ∷ 208 ∷ 251 ∷ 255 ∷ []) ∷ []
+keys = (160 ∷ 170 ∷ 210 ∷ []) ∷ (101 ∷ 103 ∷ 150 ∷ 250 ∷ []) ∷ (40 ∷ 208 ∷ 251 ∷ 255 ∷ []) ∷ []
 
 pub key : (x : Access) (xs : List ℕ) → T (each (is x) xs) → (a : ℕ) → OneOf xs a → x ≡ accessOf a
 key x xs t a h = same x a (in-list (is x) xs t a h)
@@ -89,7 +89,7 @@ way x lo n t {a} out h g = same x a (in-rest (is x) keys lo n t a out h g)
 -- ---- what stands behind an address that is none of the 39
 abbrev otherKeys : List (List ℕ)
 otherKeys =
-    (255 ∷ []) ∷ (254 ∷ []) ∷ (253 ∷ []) ∷ (252 ∷ []) ∷ (251 ∷ []) ∷ (250 ∷ []) ∷ (170 ∷ []) ∷ (168 ∷ []) ∷ (167 ∷ []) ∷ (160 ∷ [])
+    (255 ∷ []) ∷ (254 ∷ []) ∷ (253 ∷ []) ∷ (252 ∷ []) ∷ (251 ∷ []) ∷ (250 ∷ []) ∷ (210 ∷ []) ∷ (170 ∷ []) ∷ (168 ∷ []) ∷ (167 ∷ []) ∷ (160 ∷ [])
     ∷ (150 ∷ []) ∷ (128 ∷ []) ∷ (103 ∷ []) ∷ (101 ∷ []) ∷ []
 
 abbrev isUnknown : Access → Bool
@@ -120,6 +120,7 @@ orderAt System = 0xA0
 orderAt Calibration = 0xA7
 orderAt Interlock = 0xA8
 orderAt Freezing = 0xAA
+orderAt Assignment = 0xD2
 
 -- what holds of both answers of a test holds of what the test gives
 pub either : {A : Type 0} (P : A → Type 0) (b : Bool) {x y : A} → (b ≡ true → P x) → P y → P (cond b x y)
@@ -140,12 +141,13 @@ other-has P a one two shown order unknown =
     (either P (eqb a 0xA7) (order Calibration)
     (either P (eqb a 0xA8) (order Interlock)
     (either P (eqb a 0xAA) (order Freezing)
+    (either P (eqb a 0xD2) (order Assignment)
     (either P (eqb a 0xFA) (λ _. shown StatusWord)
     (either P (eqb a 0xFB) (λ _. one)
     (either P (eqb a 0xFC) (λ _. shown Differential)
     (either P (eqb a 0xFD) (λ _. shown Pending)
     (either P (eqb a 0xFE) (λ _. shown Position)
-    (either P (eqb a 0xFF) (λ _. two) unknown))))))))))))))
+    (either P (eqb a 0xFF) (λ _. two) unknown)))))))))))))))
 
 -- ---- each of the 256 addresses falls in exactly one group
 abbrev count : List ℕ → ℕ → ℕ

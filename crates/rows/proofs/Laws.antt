@@ -1,8 +1,8 @@
 -- What holds of the rows for any caller: places and addresses, values that lie in their rows, the limits of the node address and of
 -- the two signed parameters. What speaks of the 39 rows alone is one computed test over them.
 -- Assumes nothing.
-use mathlib.Core.Path.{_≡_, refl, sym}
-use mathlib.Core.Bool.{Bool, true, false, true≢false}
+use mathlib.Core.Path.{_≡_, refl, sym, _∙_}
+use mathlib.Core.Bool.{Bool, true, false, cond, true≢false}
 use mathlib.Core.List.{List, map}
 use Prim.Native.Nat.{ℕ, suc, _-_, _<_, _≤_}
 use native.Mathlib.Omega.{arith}
@@ -13,9 +13,9 @@ use lib.Signed.{ltZ}
 use borrow.Author.Tests.{ltb-true, ltb-false, le-ltb}
 use Rattle.signed.specs.Number.{numberOf}
 use Rattle.rows.specs.declared.table.Place.the-variants.{At}
-use Rattle.rows.specs.declared.range.Range.the-variants.{Right}
+use Rattle.rows.specs.declared.range.Range.the-variants.{Right, Low, High}
 use Rattle.rows.specs.Table.{address, delivery, rows, blank, rowOf, placeOf}
-use Rattle.rows.specs.Ranges.{isSignedOf, readingOf, unlistedOf, betweenOf, rangeIn, rangeOf, isRight, fitsIn, allRightOf}
+use Rattle.rows.specs.Ranges.{isSignedOf, readingOf, unlistedOf, betweenOf, rangeIn, otherRowOf, rangeOf, isRight, fitsIn, allRightOf}
 use Rattle.rows.proofs.Span.{in-span, is-true}
 use Rattle.rows.proofs.Places.{found, same, same-only}
 use Rattle.rows.proofs.Fits.{each-in, set-in}
@@ -75,6 +75,19 @@ node-limits w h = let l = limits (pos 1) (pos 127) (pos w) false h in (ltb-false
 pub node-fits : (w : ℕ) → 1 ≤ w → w ≤ 127 → fitsIn (rowOf 0) w ≡ true
 unfolding rowOf rows fitsIn rangeIn betweenOf readingOf isSignedOf unlistedOf
 node-fits w l h = simp (le-ltb w 1 l, le-ltb 127 w h)
+
+-- how a number that is offered by D2h lies to its limits, 1 and 31
+pub offer-range : (w : ℕ) → rangeOf 0xD2 w ≡ cond (ltb w 1) Low (cond (ltb 31 w) High Right)
+unfolding rangeOf rangeIn placeOf rows otherRowOf betweenOf readingOf isSignedOf unlistedOf
+offer-range w = refl
+
+pub offer-limits : (w : ℕ) → rangeOf 0xD2 w ≡ Right → (1 ≤ w) × (w ≤ 31)
+offer-limits w h = go (ltb w 1) refl (ltb 31 w) refl (sym (offer-range w) ∙ h)
+  where
+    go : (s : Bool) → ltb w 1 ≡ s → (t : Bool) → ltb 31 w ≡ t → cond s Low (cond t High Right) ≡ Right → (1 ≤ w) × (w ≤ 31)
+    go true e t g n = let z : _≡_ {A = ℕ} 0 1 = cc in absurd (omega arith)
+    go false e true g n = let z : _≡_ {A = ℕ} 0 1 = cc in absurd (omega arith)
+    go false e false g n = (ltb-false w 1 e, ltb-false 31 w g)
 
 -- a number between a low limit below 0 and a high one is no larger than the larger of them
 size-limit : (n m : ℕ) (v : ℤ) → suc n ≤ m → (ltZ v (negsuc n) ≡ false) × (ltZ (pos m) v ≡ false) → natAbs v ≤ m

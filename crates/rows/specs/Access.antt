@@ -1,4 +1,4 @@
--- The access group of each parameter address (document 01, "Stored parameters": each falls in exactly one).
+-- The access group of each parameter address (document 01, "Stored parameters": each falls in exactly one; D2h: document 02, request (ii)).
 -- Assumes nothing.
 use Prim.Native.Nat.{ℕ}
 use mathlib.Core.Bool.{Bool, cond, _||_}
@@ -20,7 +20,7 @@ readOnly =
     0x65 ∷ 0x67 ∷ 0x80 ∷ 0x81 ∷ 0x82 ∷ 0x83 ∷ 0x84 ∷ 0x85 ∷ 0x86 ∷ 0x87 ∷ 0x88 ∷ 0x89 ∷ 0x8A ∷ 0x96 ∷ 0xFA ∷ 0xFC ∷ 0xFD ∷ 0xFE ∷ []
 
 abbrev pub writeOnly : List ℕ
-writeOnly = 0xA0 ∷ 0xA7 ∷ 0xA8 ∷ 0xAA ∷ []
+writeOnly = 0xA0 ∷ 0xA7 ∷ 0xA8 ∷ 0xAA ∷ 0xD2 ∷ []
 
 unfoldable pub accessOf : ℕ → Access
 accessOf a =

@@ -1,4 +1,4 @@
--- What stands behind each parameter address (document 01, "What each one does").
+-- What stands behind each parameter address (document 01, "What each one does"; D2h, Auto-ID assignment: document 02, request (ii)).
 -- Assumes nothing.
 use Prim.Native.Nat.{ℕ, _-_}
 use mathlib.Core.Bool.{cond, _&&_}
@@ -10,7 +10,7 @@ use Rattle.rows.specs.declared.access.Access.the-variants as access
 use Rattle.rows.specs.declared.kind.Kind.{Kind}
 use Rattle.rows.specs.declared.kind.Kind.the-variants.{Stored, SetPoint1, SetPoint2, ReadOnly, WriteOnly, Unknown}
 use Rattle.rows.specs.declared.kind.Shown.the-variants.{Identification, Version, ErrorCount, ErrorAt, InputErrors, StatusWord, Differential, Pending, Position}
-use Rattle.rows.specs.declared.kind.Order.the-variants.{System, Calibration, Interlock, Freezing}
+use Rattle.rows.specs.declared.kind.Order.the-variants.{System, Calibration, Interlock, Freezing, Assignment}
 use Rattle.rows.specs.Table.{placeOf}
 
 -- 81h is the oldest error, place 0 of the memory; 8Ah the last of ten
@@ -25,12 +25,13 @@ otherOf a =
     (cond (eqb a 0xA7) (WriteOnly Calibration)
     (cond (eqb a 0xA8) (WriteOnly Interlock)
     (cond (eqb a 0xAA) (WriteOnly Freezing)
+    (cond (eqb a 0xD2) (WriteOnly Assignment)
     (cond (eqb a 0xFA) (ReadOnly StatusWord)
     (cond (eqb a 0xFB) SetPoint1
     (cond (eqb a 0xFC) (ReadOnly Differential)
     (cond (eqb a 0xFD) (ReadOnly Pending)
     (cond (eqb a 0xFE) (ReadOnly Position)
-    (cond (eqb a 0xFF) SetPoint2 Unknown))))))))))))))
+    (cond (eqb a 0xFF) SetPoint2 Unknown)))))))))))))))
 
 abbrev pub storedOr : Place → Kind → Kind
 storedOr (At i) other = Stored i

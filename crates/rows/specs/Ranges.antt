@@ -34,15 +34,16 @@ betweenOf lo hi v skipped = cond (ltZ v lo) Low (cond (ltZ hi v) High (cond skip
 unfoldable pub rangeIn : Row → ℕ → Range
 rangeIn r w = betweenOf (low r) (high r) (readingOf (address r) w) (unlistedOf (address r) w)
 
--- the limits of what may be written and is not stored; FBh and FFh take any 32 bits
+-- the limits of what may be written and is not stored; FBh and FFh take any 32 bits, and by D2h the numbers 1 to 31 can be offered
 unfoldable pub otherRowOf : ℕ → Row
 otherRowOf a =
     cond (eqb a 0xA0) (row 0xA0 (pos 1) (pos 9) 0)
     (cond (eqb a 0xA7) (row 0xA7 (pos 1) (pos 1) 0)
     (cond (eqb a 0xA8) (row 0xA8 (pos 0) (pos 1) 0)
     (cond (eqb a 0xAA) (row 0xAA (pos 1) (pos 1) 0)
+    (cond (eqb a 0xD2) (row 0xD2 (pos 1) (pos 31) 0)
     (cond (eqb a 0xFF) (row 0xFF (minus 2147483648) (pos 2147483647) 0)
-    (row a (pos 0) (pos 4294967295) 0)))))
+    (row a (pos 0) (pos 4294967295) 0))))))
 
 abbrev pub rowAt : Place → ℕ → Row
 rowAt (At i) a = rowOf i

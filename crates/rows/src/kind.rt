@@ -24,6 +24,7 @@ pub enum Order {
     Calibration,
     Interlock,
     Freezing,
+    Assignment,
 }
 
 // The parameters by their access groups. Those that are read and written are the 39, by their places, and the two set points.
@@ -61,6 +62,7 @@ fn other(address: u8) -> Kind
         0xA7 => Kind::WriteOnly(Order::Calibration),
         0xA8 => Kind::WriteOnly(Order::Interlock),
         0xAA => Kind::WriteOnly(Order::Freezing),
+        0xD2 => Kind::WriteOnly(Order::Assignment),
         0xFA => Kind::ReadOnly(Shown::StatusWord),
         0xFB => Kind::SetPoint1,
         0xFC => Kind::ReadOnly(Shown::Differential),

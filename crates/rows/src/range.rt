@@ -77,6 +77,7 @@ fn other_row(address: u8) -> Row
         0xA7 => Row(0xA7, 1, 1, 0),
         0xA8 => Row(0xA8, 0, 1, 0),
         0xAA => Row(0xAA, 1, 1, 0),
+        0xD2 => Row(0xD2, 1, 31, 0),
         0xFF => Row(0xFF, -2147483648, 2147483647, 0),
         _ => Row(address, 0, 4294967295, 0),
     }

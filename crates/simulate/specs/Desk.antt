@@ -45,6 +45,10 @@ unfoldable pub sendOf : Desk → List ℕ → ℕ → ℕ → ℕ → Desk
 sendOf d text time from count =
     record { line = sentOf text time from (roomOf (d .space)) (d .line) count; space = d .space }
 
+-- a key state, with the room that a byte has
+abbrev pub pressedOf : Desk → ℕ → ℕ → Desk
+pressedOf d at state = record { line = keysOf (d .line) at state (roomOf (d .space)) .line; space = d .space }
+
 -- other space
 abbrev pub spacedOf : Desk → ℕ → Desk
 spacedOf d size = record { line = d .line; space = size }
@@ -57,7 +61,7 @@ didOf (command.Grow node) text d = calledOf d (growOf (d .line) node)
 didOf (command.Send time from count) text d = sendOf d text time from count
 didOf (command.Tick time) text d = calledOf d (tickOf (d .line) time)
 didOf (command.Measure at value) text d = calledOf d (measureOf (d .line) at value)
-didOf (command.Keys at state) text d = calledOf d (keysOf (d .line) at state)
+didOf (command.Keys at state) text d = pressedOf d at state
 didOf (command.Power at) text d = calledOf d (powerOf (d .line) at)
 didOf (command.Space size) text d = spacedOf d size
 didOf (command.Xor at) text d = d

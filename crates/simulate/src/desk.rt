@@ -13,9 +13,9 @@ use script::Command;
 ghost use mathlib.Core.Path.{_≡_};
 ghost use Prim.Native.Nat.{_≤_};
 ghost use lib.ListN.{length};
-ghost use Rattle.simulate.specs.Desk.{deskOf, hitLineOf, wordOf, sentOf, roomOf, sendOf, calledOf, spacedOf, obeyedOf};
+ghost use Rattle.simulate.specs.Desk.{deskOf, hitLineOf, wordOf, sentOf, roomOf, sendOf, calledOf, pressedOf, spacedOf, obeyedOf};
 
-// The line, and how much reply space its byte calls lend.
+// The line, and how much reply space its byte and key calls lend.
 pub(crate) struct Desk {
     pub line: Line,
     pub space: usize,
@@ -226,6 +226,41 @@ fn done(d: Desk, c: Called) -> Obeyed
     }
 }
 
+// What a key state drew: a head sends a reply only where it adopts the number that it was offered.
+fn write_pressed(heard: Heard, space: &[u8; 64]) -> bool {
+    match heard {
+        Heard::Replies(n) => {
+            if n == 0 {
+                return write_answer(Answer::Done);
+            }
+            let label = answer::write(b"ok");
+            let text = word(space);
+            let reply = answer::write(&text) & label;
+            answer::write(b"\n") & reply
+        }
+        Heard::Refused(why) => write_refused(why),
+    }
+}
+
+// A key state lends as much as a byte does. The reply, if there is one, is at the start of what was lent.
+fn press(d: Desk, head: usize, state: u32) -> Obeyed
+    ensures { λ r. ⌜ r .desk ≡ pressedOf d head state ⌝ }
+{
+    let mut space = [0u8; 64];
+    let lent = room(d.space);
+    let f = calls::keys(d.line, head, state, &mut space[..lent]);
+    let line = f.line;
+    let desk = Desk {
+        line: line,
+        space: d.space,
+    };
+    let heard = f.heard;
+    Obeyed {
+        desk: desk,
+        written: write_pressed(heard, &space),
+    }
+}
+
 fn spaced(d: Desk, size: usize) -> Obeyed
     ensures { λ r. ⌜ r .desk ≡ spacedOf d size ⌝ }
 {
@@ -254,7 +289,7 @@ pub(crate) fn obey(d: Desk, text: &[u8], number: u64) -> Obeyed
         Command::Send { time, from, count } => send(d, text, time, from, count),
         Command::Tick(time) => done(d, calls::tick(d.line, time)),
         Command::Measure { head, value } => done(d, calls::measure(d.line, head as usize, value)),
-        Command::Keys { head, state } => done(d, calls::keys(d.line, head as usize, state)),
+        Command::Keys { head, state } => press(d, head as usize, state),
         Command::Power(head) => done(d, calls::power(d.line, head as usize)),
         Command::Space(size) => spaced(d, size),
         Command::Xor(head) => Obeyed {

@@ -14,7 +14,7 @@ fn words() -> bool {
         b"  head NODE            grow the line by a head; the first is head 0\n  send TIME HEX        feed these bytes (two hex digits each), all at TIME\n  tick TIME            let the heads look at the clock\n",
     );
     let heads = write(
-        b"  measure HEAD VALUE   a head's measurement; VALUE may have a minus sign\n  keys HEAD STATE      a head's keys: 1 left, 2 star, 4 up, or a sum of these\n  power HEAD           switch a head off and on\n  space SIZE           how much reply space bytes lend, 0 to 64; 10 at first\n  xor HEAD             which bits of a head's last damaged telegram were hit\n\n",
+        b"  measure HEAD VALUE   a head's measurement; VALUE may have a minus sign\n  keys HEAD STATE      a head's keys: 1 left, 2 star, 4 up, or a sum of these\n  power HEAD           switch a head off and on\n  space SIZE           the reply space bytes and keys lend, 0 to 64; 10 at first\n  xor HEAD             which bits of a head's last damaged telegram were hit\n\n",
     );
     what & line & heads
 }
@@ -24,7 +24,7 @@ fn answers() -> bool {
         b"Numbers are decimal, TIME is in milliseconds. Blank lines and lines whose first\nword starts with # are passed over. What is written for a command:\n\n",
     );
     let done = write(
-        b"  ok                   done\n  sent ...             fed; then each reply as twenty hex digits, or 'collision N'\n                       where N heads replied at once\n",
+        b"  ok                   done\n  ok REPLY             keys done, and the head adopts the number it was offered:\n                       REPLY is what it sends, twenty hex digits\n  sent ...             fed; then each reply as twenty hex digits, or 'collision N'\n                       where N heads replied at once\n",
     );
     let hit = write(
         b"  xor HH               the exclusive-or of the last damaged telegram that the head\n                       heard since it was switched on or restarted; 00: none\n",

@@ -2,16 +2,16 @@
 -- Assumes nothing.
 use Prim.Native.Nat.{ℕ, _+_, _*_, _%_, _^_, _≤_, _<_}
 use mathlib.Core.Path.{_≡_, refl, sym}
-use mathlib.Core.Bool.{Bool, true, false, cond, not, _&&_, and-eq-true-iff}
+use mathlib.Core.Bool.{Bool, true, false, cond, not, _&&_, _||_, and-eq-true-iff}
 use mathlib.Core.List.{List, [], _∷_, _++_, map}
-use mathlib.Core.Logic.{⊎-elim}
+use mathlib.Core.Logic.{_≢_, ⊎-elim}
 use native.Mathlib.Numerals.{add-one}
 use native.Mathlib.Omega.{arith}
 use lib.Dec.{leb, ltb, eqb}
 use lib.IntN.{ℤ, pos, negsuc, natAbs}
 use lib.ListN.{length, drop, set, length-set, length-append, length-drop}
 use lib.Seq.{length-take-le, take-all, take-suc, take-set-le, getD-set-same}
-use borrow.Author.Tests.{leb-true, le-leb, lt-ltb, le-ltb, ltb-true, ltb-false, eq-eqb}
+use borrow.Author.Tests.{leb-true, le-leb, lt-ltb, le-ltb, ltb-true, ltb-false, eq-eqb, eqb-true, eqb-false}
 use Rattle.signed.proofs.Sizes.{less-or-not}
 use Rattle.signed.proofs.Laws.{absolute-small, relative-small, rounded-small}
 use Rattle.rows.specs.declared.table.Place.the-variants.{At}
@@ -30,7 +30,7 @@ use Rattle.state.specs.Settings.{valueAt, nodePlace, baudPlace, timeoutP
 use Rattle.state.specs.Errors.{entries, entered, rememberedOf}
 use Rattle.state.specs.Position.{positionOf, actualOf, shownOf, positionBy, viewOf}
 use Rattle.state.specs.Status.{aimBitsOf, restBitsOf, aimedOf, statusOf, withinOf}
-use Rattle.state.specs.Wellformed.{inReachOf, storedFits, faultsFit, keptFits, measurementFits, earFits, wellformedOf}
+use Rattle.state.specs.Wellformed.{inReachOf, offerFits, storedFits, faultsFit, keptFits, measurementFits, earFits, wellformedOf}
 use Rattle.state.proofs.Bits.{bit-most, bit-weighs, bit-five}
 
 -- ---- each place is its address's place
@@ -154,14 +154,39 @@ small-reach (negsuc n) h = rw (le-leb n 2499999 (omega arith))
 pub record WellStored (s : Stored) : Type 0 where
   pub values : allRightOf (s .values) ≡ true
   pub number : fitsIn (rowOf nodePlace) (s .number) ≡ true
+  pub offer : offerFits (s .number) (s .offer) ≡ true
 
 pub stored-told : (s : Stored) → storedFits s ≡ true → WellStored s
 unfolding storedFits
-stored-told s h = let b = both (allRightOf (s .values)) _ h in record { values = b .0; number = b .1 }
+stored-told s h =
+    let b = both (allRightOf (s .values)) _ h in
+    let d = both (fitsIn (rowOf nodePlace) (s .number)) _ (b .1) in
+    record { values = b .0; number = d .0; offer = d .1 }
 
 pub stored-holds : (s : Stored) → WellStored s → storedFits s ≡ true
 unfolding storedFits
-stored-holds s w = rw (w .values, w .number)
+stored-holds s w = rw (w .values, w .number, w .offer)
+
+-- nothing is offered, or 1 to 31 at 31
+pub none-offered : (number : ℕ) → offerFits number 0 ≡ true
+unfolding offerFits
+none-offered number = refl
+
+pub offer-told : (number offer : ℕ) → offerFits number offer ≡ true → (offer ≤ 31) × (offer ≢ 0 → number ≡ 31)
+unfolding offerFits
+offer-told number offer h = go (eqb offer 0) refl
+  where
+    go : (none : Bool) → eqb offer 0 ≡ none → (offer ≤ 31) × (offer ≢ 0 → number ≡ 31)
+    go true e = let z = eqb-true offer 0 e in (omega arith, λ n. absurd (n z))
+    go false e = let b = both (leb offer 31) _ (rw e at h) in (leb-true offer 31 (b .0), λ _. eqb-true number 31 (b .1))
+
+pub offer-holds : (number offer : ℕ) → offer ≤ 31 → (offer ≢ 0 → number ≡ 31) → offerFits number offer ≡ true
+unfolding offerFits
+offer-holds number offer l at = go (eqb offer 0) refl
+  where
+    go : (none : Bool) → eqb offer 0 ≡ none → none || (leb offer 31 && eqb number 31) ≡ true
+    go true e = refl
+    go false e = rw (le-leb offer 31 l, eq-eqb number 31 (at (eqb-false offer 0 e)))
 
 pub record WellFaults (f : Faults) : Type 0 where
   pub memory : f .memory .count ≤ 10

@@ -1,4 +1,4 @@
--- The edges of refusal 20 (document 01, "The line, and calls refused"): for each of its clauses two heads that are as delivered but for one
+-- The edges of refusal 20 (document 01, "The line, and calls refused"; document 02, request (ii)): for each of its clauses two heads that are as delivered but for one
 -- thing, which in the first lies just at its limit and in the second just past it.
 -- Assumes nothing.
 use Prim.Native.Nat.{ℕ, suc}
@@ -18,8 +18,8 @@ use Rattle.state.specs.declared.parts.Measurement.{Measurement}
 use Rattle.state.specs.Wellformed.{wellformedOf}
 
 -- ---- the parts that refusal 20 looks at, by what it looks at
-abbrev stored : List ℕ → ℕ → Stored
-stored values number = record { values = values; number = number; baud = 1; unlocked = false }
+abbrev stored : List ℕ → ℕ → ℕ → Stored
+stored values number offer = record { values = values; number = number; baud = 1; offer = offer; unlocked = false }
 
 abbrev list : ℕ → ErrorList
 list count = record { codes = replicate 10 0; count = count }
@@ -48,7 +48,7 @@ abbrev values : List ℕ
 values = map delivery rows
 
 abbrev delivered : Stored
-delivered = stored values 31
+delivered = stored values 31 0
 
 abbrev clear : Faults
 clear = faults 0 0 0
@@ -71,10 +71,17 @@ gathered n = head delivered clear still n 0
 
 -- the word at place i of the 39
 abbrev pub value : ℕ → ℕ → Head
-value i word = head (stored (set values i word) 31) clear still 0 0
+value i word = head (stored (set values i word) 31 0) clear still 0 0
 
 abbrev pub number : ℕ → Head
-number n = head (stored values n) clear still 0 0
+number n = head (stored values n 0) clear still 0 0
+
+-- the number that is offered, and the number in force where one is
+abbrev pub offered : ℕ → Head
+offered n = head (stored values 31 n) clear still 0 0
+
+abbrev pub offeredAt : ℕ → Head
+offeredAt n = head (stored values n 5) clear still 0 0
 
 abbrev pub measured : ℤ → Head
 measured m = head delivered clear (measurement m (pos 0) (pos 0) 0 (pos 0)) 0 0
@@ -124,6 +131,9 @@ edges =
     ∷ edge damaged 2 3
     ∷ edge number 1 0
     ∷ edge number 127 128
+    ∷ edge offered 31 32
+    ∷ edge offeredAt 31 30
+    ∷ edge offeredAt 31 32
     ∷ edge measured (minus 2500000) (minus 2500001)
     ∷ edge measured (pos 2500000) (pos 2500001)
     ∷ edge zeroed (minus 2500000) (minus 2500001)

@@ -1,7 +1,8 @@
 -- The states that a head can be in (document 01, "The line, and calls refused": what refusal 20 looks at in a head).
 -- Assumes nothing.
-use mathlib.Core.Bool.{Bool, _&&_}
-use lib.Dec.{leb}
+use Prim.Native.Nat.{ℕ}
+use mathlib.Core.Bool.{Bool, _&&_, _||_}
+use lib.Dec.{leb, eqb}
 use lib.IntN.{ℤ, pos, natAbs}
 use lib.Signed.{leZ}
 use Rattle.signed.specs.Number.{minus}
@@ -18,9 +19,13 @@ use Rattle.state.specs.Settings.{nodePlace, calibrationPlace}
 unfoldable pub inReachOf : ℤ → Bool
 inReachOf m = leZ (minus 2500000) m && leZ m (pos 2500000)
 
--- each stored value and the number in force in its row
+-- a number that is offered (document 02, request (ii); 0: none is) is 1 to 31, and the number in force is 31
+unfoldable pub offerFits : ℕ → ℕ → Bool
+offerFits number offer = eqb offer 0 || (leb offer 31 && eqb number 31)
+
+-- each stored value and the number in force in its row, and the offer so
 unfoldable pub storedFits : Stored → Bool
-storedFits s = allRightOf (s .values) && fitsIn (rowOf nodePlace) (s .number)
+storedFits s = allRightOf (s .values) && (fitsIn (rowOf nodePlace) (s .number) && offerFits (s .number) (s .offer))
 
 -- at most ten entries in a list, at most two damaged in a row
 unfoldable pub faultsFit : Faults → Bool

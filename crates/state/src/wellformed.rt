@@ -6,7 +6,7 @@ use crate::parts::Measurement;
 use crate::parts::Stored;
 ghost use mathlib.Core.Path.{_≡_};
 ghost use mathlib.Core.Bool.{Bool};
-ghost use Rattle.state.specs.Wellformed.{inReachOf, storedFits, faultsFit, keptFits, measurementFits, earFits, wellformedOf};
+ghost use Rattle.state.specs.Wellformed.{inReachOf, offerFits, storedFits, faultsFit, keptFits, measurementFits, earFits, wellformedOf};
 
 // A measurement lies in -2,500,000..2,500,000.
 pub fn in_reach(m: i32) -> bool
@@ -15,11 +15,18 @@ pub fn in_reach(m: i32) -> bool
     (-2500000 <= m) & (m <= 2500000)
 }
 
+// A number that is offered is 1 to 31, and the number in force is 31.
+fn offer(number: u32, offered: u32) -> bool
+    ensures { λ r. ⌜ r ≡ offerFits number offered ⌝ }
+{
+    (offered == 0) | ((offered <= 31) & (number == 31))
+}
+
 fn stored(s: Stored) -> bool
     ensures { λ r. ⌜ r ≡ storedFits s ⌝ }
 {
     let v = s.values;
-    rows::range::all_right(v) & rows::range::fits_at(0, s.number)
+    rows::range::all_right(v) & (rows::range::fits_at(0, s.number) & offer(s.number, s.offer))
 }
 
 fn faults(f: Faults) -> bool

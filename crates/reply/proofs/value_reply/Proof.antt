@@ -18,8 +18,8 @@ value-reply-spec =
     (λ c κs. search needs)
     (λ c κs. search needs)
     (λ c κs. search needs)
-    (λ c. let i = c .before .before in let k = i .before .before in
-    simp (c .saying2 .ensures, c .before .answer .ensures, sym (k .before .reads .ensures) ∙ k .if1 .left, sym (i .before .writes .ensures) ∙ i .if2 .taken))
+    (λ c. let i = c .before .before in let k = i .before .before .before in
+    simp (c .saying2 .ensures, c .before .answer .ensures, sym (k .before .reads .ensures) ∙ k .if1 .left, ← i .before .before .writes .ensures, i .if2 .taken))
     (λ c κs. search needs)
-    (λ c. let i = c .before in let k = i .before .before in
-    simp (c .silent .ensures, sym (k .before .reads .ensures) ∙ k .if1 .left, sym (i .before .writes .ensures) ∙ i .if2 .left)))
+    (λ c. let i = c .before in let k = i .before .before .before in
+    simp (c .silent .ensures, sym (k .before .reads .ensures) ∙ k .if1 .left, ← i .before .before .writes .ensures, i .if2 .left)))

@@ -1,10 +1,12 @@
 //! Makes random scripts. The reference itself runs along, so that telegrams can be meant for the numbers in
 //! force, set points for the places where the windows end, and ticks for the moments when a timeout is due.
 
+mod auto_id;
+
 use crate::random::Random;
 use crate::telegrams::Author;
 use crate::text::Text;
-use reference::head::{Head, HIGHEST_MEASUREMENT};
+use reference::head::{Head, FACTORY_NODE, HIGHEST_MEASUREMENT};
 use reference::line::MOST_HEADS;
 use reference::rows;
 use reference::script::{hex, Simulation, LONGEST_LINE};
@@ -12,12 +14,16 @@ use reference::telegram::{Telegram, WRITE};
 
 pub const LINES: usize = 300;
 
+/// Of a hundred steps, in one script after the other: every adoption is a restart, and without some calm heads
+/// have no past to show.
+const AUTO_ID_STEPS: [u32; 4] = [14, 0, 8, 4];
+
 /// Unknown words, missing and extra words, numbers that do not fit, hex digits that are none.
 const LINES_THAT_ARE_NONE: &str = "heads 1|HEAD 1|Send 0 00|head|head 1 2|head -1|head +1|head 1F|head 0x1F|\
     head 4294967296|head 42949672960|head 18446744073709551617|head 1#|send|send 0|send 0 0|send 0 001F2|\
     send 0 0G|send 0 00 00|send 0 0x00|send 4294967296 00|send -1 00|tick|tick 1 2|tick 4294967296|tick -0|\
     measure 0|measure 0 1 2|measure 0 2147483648|measure 0 -2147483649|measure 0 -|measure 0 --1|\
-    measure 0 +1|measure -0 1|keys 0|keys 0 -1|power|power 0 0|xor|xor 0 0|xor 0 1|\
+    measure 0 +1|measure -0 1|keys 0|keys 0 -1|keys 0 4 10|power|power 0 0|xor|xor 0 0|xor 0 1|\
     xor -1|xor -0|xor +0|xor x|xor 1F|xor 0x0|xor 0#|xor 4294967296|xor 18446744073709551616|XOR 0|xors 0|\
     xor0|space 65|space -1";
 
@@ -25,6 +31,8 @@ pub struct Generator {
     random: Random,
     model: Simulation,
     now: u32,
+    /// Of a hundred steps.
+    auto_id_steps: u32,
     lines: Vec<Vec<u8>>,
 }
 
@@ -35,7 +43,8 @@ pub fn script(seed: u64, number: u64) -> Text {
         1 => u32::MAX - random.below(3_000),
         _ => random.word(),
     };
-    let mut generator = Generator { random, model: Simulation::new(), now, lines: Vec::new() };
+    let auto_id_steps = AUTO_ID_STEPS[(number % 4) as usize];
+    let mut generator = Generator { random, model: Simulation::new(), now, auto_id_steps, lines: Vec::new() };
     generator.first_heads();
     while generator.lines.len() < LINES {
         generator.step();
@@ -52,17 +61,24 @@ impl Generator {
             self.step();
         }
         let heads = self.random.pick(&[1, 1, 1, 2, 2, 2, 3, 3, 4, 8]);
+        let are_as_delivered = self.random.chance(20);
         for _ in 0..heads {
-            self.grow();
+            match are_as_delivered {
+                true => self.write_line("head 31".to_string()),
+                false => self.grow(),
+            }
         }
     }
 
     fn step(&mut self) {
-        if self.model.space() < 10 && self.random.chance(60) {
-            return self.write_line("space 10".to_string());
+        if self.model.space() < 10 && self.random.chance(75) {
+            return self.in_short_space();
         }
         if let (Some(twin), true) = (self.twin(), self.random.chance(20)) {
             return self.part(twin);
+        }
+        if self.random.chance(self.auto_id_steps) {
+            return self.auto_id();
         }
         match self.random.below(100) {
             0..=48 => self.send_telegrams(),
@@ -132,8 +148,11 @@ impl Generator {
     /// Gives heads of one number a new one, and takes it into force in one of them only: replies that
     /// collide show little.
     fn part(&mut self, twin: usize) {
-        self.advance();
         let node = self.model.line().heads()[twin].number_in_force();
+        if node == FACTORY_NODE && self.random.chance(50) {
+            return self.part_by_key(twin);
+        }
+        self.advance();
         let new_node = 1 + self.random.below(127);
         self.send(&Telegram::new(WRITE, node, rows::NODE_ADDRESS, 0, new_node).bytes());
         self.write_line(format!("power {twin}"));
@@ -360,6 +379,15 @@ impl Generator {
     fn space(&mut self) {
         let size = self.random.pick(&[0, 1, 9, 9, 10, 10, 11, 20, 64, 65]);
         self.write_line(format!("space {size}"));
+    }
+
+    /// Mostly its end, so that heads are heard again; before it keys, which are refused as bytes are.
+    fn in_short_space(&mut self) {
+        match self.random.below(10) {
+            0..=1 => self.keys(),
+            2 => self.refused(),
+            _ => self.write_line("space 10".to_string()),
+        }
     }
 
     /// A call with a number that is refused, in every order of the refusals.

@@ -19,9 +19,9 @@ const FUNCTIONAL_VALUES: [u8; 6] = [
     rows::SET_POINT_2,
 ];
 const READ_ONLY: [u8; 12] = [0x65, 0x67, 0x80, 0x81, 0x85, 0x8A, 0x96, 0xFA, 0xFC, 0xFD, 0xFE, 0xFE];
-const WRITE_ONLY: [u8; 4] = [0xA0, 0xA7, 0xA8, 0xAA];
-const UNKNOWN: [u8; 14] =
-    [0x10, 0x1A, 0x1D, 0x23, 0x36, 0x41, 0x63, 0x66, 0x7F, 0x8B, 0xA1, 0xC5, 0xD2, 0xF9];
+const WRITE_ONLY: [u8; 5] = [0xA0, 0xA7, 0xA8, 0xAA, 0xD2];
+const UNKNOWN: [u8; 15] =
+    [0x10, 0x1A, 0x1D, 0x23, 0x36, 0x41, 0x63, 0x66, 0x7F, 0x8B, 0xA1, 0xC5, 0xD1, 0xD3, 0xF9];
 
 pub struct Author<'a> {
     pub random: &'a mut Random,
@@ -87,9 +87,10 @@ impl Author<'_> {
             72..=78 => self.system_command(WRITE),
             79..=84 => self.other_write_only(WRITE),
             85..=91 => self.broadcast(),
-            92..=94 => self.wrong_access(),
-            95..=96 => self.other_command(),
-            97..=98 => self.unknown_parameter(),
+            92..=93 => self.wrong_access(),
+            94 => self.other_command(),
+            95..=96 => self.unknown_parameter(),
+            97..=98 => self.auto_id(),
             _ => self.noise(),
         }
     }
@@ -208,13 +209,13 @@ impl Author<'_> {
         word
     }
 
-    fn write_set_point_1(&mut self) -> Telegram {
+    pub fn write_set_point_1(&mut self) -> Telegram {
         let data = self.random.pick(&[0, 1, 1_234, u32::MAX, 0xDEAD_BEEF]);
         let control_word = self.control_word();
         self.sound(WRITE, rows::SET_POINT_1, control_word, data)
     }
 
-    fn write_set_point_2(&mut self) -> Telegram {
+    pub fn write_set_point_2(&mut self) -> Telegram {
         let data = match self.random.below(10) {
             0 => self.random.pick(&[0, 0x7FFF_FFFF, 0x8000_0000, u32::MAX]),
             1 => self.random.word(),
@@ -279,6 +280,67 @@ impl Author<'_> {
     fn at_any_node(&mut self, command: u8, telegram: Telegram) -> Telegram {
         let node = self.random.byte();
         Telegram::new(command, node, telegram.parameter(), telegram.control_word(), telegram.data())
+    }
+
+    // Auto-ID.
+
+    fn auto_id(&mut self) -> Telegram {
+        let command = self.random.pick(&[READ, WRITE, WRITE, WRITE]);
+        let data = self.new_number();
+        self.sound(command, rows::AUTO_ID, 0, data)
+    }
+
+    fn new_number(&mut self) -> u32 {
+        match self.random.chance(50) {
+            true => self.legal_number(),
+            false => self.illegal_number(),
+        }
+    }
+
+    pub fn legal_number(&mut self) -> u32 {
+        match self.random.below(10) {
+            0 => 1,
+            1..=2 => 31,
+            3..=4 => 5,
+            _ => 1 + self.random.below(31),
+        }
+    }
+
+    /// The low byte of some would be legal.
+    pub fn illegal_number(&mut self) -> u32 {
+        match self.random.below(4) {
+            0 => 0,
+            1 => 32,
+            2 => self.random.pick(&[127, 128, 255, 256, 256 + 5, 0x0001_0005, 0x0500_0000]),
+            _ => self.random.pick(&[0x7FFF_FFFF, 0x8000_0000, 0x8000_0005, u32::MAX, u32::MAX - 30]),
+        }
+    }
+
+    /// A write of D2h to all heads that have this head's number. Its control word is to be ignored.
+    pub fn write_auto_id(&mut self, data: u32) -> [u8; TELEGRAM_LENGTH] {
+        let control_word = if self.random.chance(40) { self.control_word() } else { 0 };
+        let node = self.head.number_in_force();
+        Telegram::new(WRITE, node, rows::AUTO_ID, control_word, data).bytes()
+    }
+
+    /// A telegram of D2h, whatever its data, that offers nothing to this head and leaves what is on offer.
+    pub fn idle_auto_id(&mut self) -> [u8; TELEGRAM_LENGTH] {
+        let node = self.head.number_in_force();
+        let data = self.new_number();
+        let telegram = |command, node| Telegram::new(command, node, rows::AUTO_ID, 0, data);
+        match self.random.below(6) {
+            0 => telegram(READ, node).bytes(),
+            1 => telegram(BROADCAST, self.random.pick(&[0, node, node ^ 1])).bytes(),
+            2 => telegram(WRITE, self.random.pick(&[0, 1, 5, node ^ 0x80, node ^ 1])).bytes(),
+            3 => telegram(self.random.pick(&[3, 0x81, 0xFF]), node).bytes(),
+            4 => self.hit(telegram(WRITE, node)),
+            // All but the check sum is as it was.
+            _ => {
+                let mut bytes = telegram(self.random.pick(&[WRITE, WRITE, BROADCAST]), node).bytes();
+                bytes[9] ^= 1 << self.random.below(8);
+                bytes
+            }
+        }
     }
 
     fn wrong_access(&mut self) -> Telegram {

@@ -21,6 +21,8 @@ stored-by-spec =
     (λ c. search needs)
     (λ c κs. search needs)
     (λ c. search needs)
+    (λ c. search needs)
+    (λ c. search needs)
     (λ c. rw (c .before .before .d .given .1))
     (λ c. let k = c .before .before in
     let e : length (k .before .before .args .s .values) ≡ 39 = search needs in
@@ -28,4 +30,6 @@ stored-by-spec =
     rw (k .d .given .1, set-past _ _ _ h))
     (λ c. rw (c .reset .ensures, c .before .before .before .d2 .given .1))
     (λ c. rw (c .before .d3 .given .1))
-    (λ c. stored-rest (c .before .args .d) _ (c .match .keys4)))
+    (λ c. rw (c .before .d4 .given .1))
+    (λ c. rw (c .enum-told .given .1))
+    (λ c. stored-rest (c .before .args .d) _ (c .match .keys6)))

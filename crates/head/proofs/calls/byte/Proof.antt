@@ -1,4 +1,4 @@
--- `head::calls::byte` meets its contract: 20, then 6, then what the step says; a reply is laid.
+-- `head::calls::byte` meets its contract: 20, then 6, then what the step says.
 -- Assumes nothing.
 use mathlib.Core.Path.{sym, _∙_}
 use borrow.Author.Tests.{lt-ltb, le-ltb}
@@ -13,15 +13,14 @@ byte-spec =
     tie.close
     (tie.spec
     (λ c κs. search needs)
-    (λ c. let w = sym (c .before .before .wellformed .ensures) ∙ c .before .if1 .taken in
-    (simp (w, lt-ltb _ _ (c .if2 .taken)), simp (w, lt-ltb _ _ (c .if2 .taken))))
+    (λ c κs. search needs)
+    (λ c. let k = c .before in let w = sym (k .before .before .wellformed .ensures) ∙ k .before .if1 .taken in
+    (simp (c .unfed .ensures, w, lt-ltb _ _ (k .if2 .taken)), simp (w, lt-ltb _ _ (k .if2 .taken))))
     (λ c κs. search needs)
     (λ c κs. search needs)
     (λ c. search needs)
-    (λ c. let w = sym (c .before .before .before .before .before .before .before .before .before .before .wellformed .ensures) ∙ c .before .before .before .before .before .before .before .before .before .if1 .taken in
-    let k = le-ltb _ _ (c .before .before .before .before .before .before .before .before .if2 .left) in
-    (rw (w, k, ← c .before .before .before .before .before .before .before .step .ensures, c .before .before .before .before .before .if3 .taken), rw (w, k, ← c .before .before .before .before .before .before .before .step .ensures, c .before .before .before .before .before .if3 .taken) (c .before .before .lay .ensures)))
-    (λ c. let w = sym (c .before .before .before .before .before .wellformed .ensures) ∙ c .before .before .before .before .if1 .taken in
-    let k = le-ltb _ _ (c .before .before .before .if2 .left) in
-    (rw (w, k, ← c .before .before .step .ensures, c .if3 .left), rw (w, k, ← c .before .before .step .ensures, c .if3 .left)))
-    (λ c. let w = sym (c .before .wellformed .ensures) ∙ c .if1 .left in (simp w, simp w)))
+    (λ c. let s = c .before .before .before .before in let k = s .before in let w = sym (k .before .before .wellformed .ensures) ∙ k .before .if1 .taken in
+    let e = c .before .before .fed-with .ensures in
+    (rw (w, le-ltb _ _ (k .if2 .left), ← s .step .ensures) (e .0), rw (w, le-ltb _ _ (k .if2 .left), ← s .step .ensures) (e .1)))
+    (λ c κs. search needs)
+    (λ c. let w = sym (c .before .before .wellformed .ensures) ∙ c .before .if1 .left in (simp (c .unfed2 .ensures, w), simp w)))

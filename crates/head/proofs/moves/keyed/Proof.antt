@@ -1,4 +1,4 @@
--- `head::moves::keyed` meets its contract: left, then up.
+-- `head::moves::keyed` meets its contract: left, then the adoption of an offer, or up.
 -- Assumes nothing.
 use Rattle.head.specs.Moves.{keyedOf}
 use borrow.Author.Needs.{needs}
@@ -14,4 +14,10 @@ keyed-spec =
     (λ c κs. search needs)
     (λ c κs. search needs)
     (λ c κs. search needs)
-    (λ c. rw (c .up .ensures, c .before .left .ensures, c .before .before .pressed2 .ensures, c .before .before .before .pressed .ensures)))
+    (λ c κs. search needs)
+    (λ c κs. search needs)
+    (λ c. let i = c .before .before .before in let l = i .before in
+    rw (c .adopted .ensures, c .before .adoption .ensures, c .before .before .status .ensures, l .left .ensures, l .before .pressed2 .ensures, ← l .before .before .pressed .ensures, i .if1 .taken))
+    (λ c κs. search needs)
+    (λ c. let i = c .before in let l = i .before in
+    rw (c .up .ensures, l .left .ensures, l .before .pressed2 .ensures, ← l .before .before .pressed .ensures, i .if1 .left)))

@@ -18,6 +18,7 @@ deed-of-spec =
     (λ c κs. search needs)
     (λ c. search needs)
     (λ c. search needs)
+    (λ c κs. search needs)
     (λ c. let i = c .before .before in simp (c .shown-by .ensures, i .before .enum-told .given .1, sym (i .changes .ensures) ∙ c .before .if1 .left))
     (λ c. rw (c .enum-told2 .given .1))
-    (λ c. rw (c .enum-told3 .given .1)))
+    (λ c. simp (c .refused-by .ensures, c .before .before .v .given .1)))

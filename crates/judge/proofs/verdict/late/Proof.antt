@@ -27,22 +27,26 @@ late-spec =
     (λ c κs. search needs)
     (λ c κs. search needs)
     (λ c κs. search needs)
+    (λ c κs. search needs)
+    (λ c κs. search needs)
     (λ c. simp (
       c .hush .ensures,
-      c .before .first6 .ensures,
-      c .before .before .first5 .ensures,
-      c .before .before .before .first4 .ensures,
-      c .before .before .before .before .first3 .ensures,
-      c .before .before .before .before .before .first2 .ensures,
-      c .before .before .before .before .before .before .check-number .ensures,
-      c .before .before .before .before .before .before .before .first .ensures,
-      c .before .before .before .before .before .before .before .before .check-value .ensures,
-      c .before .before .before .before .before .before .before .before .before .range-of .ensures,
-      c .before .before .before .before .before .before .before .before .before .before .check-lock .ensures,
-      c .before .before .before .before .before .before .before .before .before .before .before .check-access .ensures,
-      c .before .before .before .before .before .before .before .before .before .before .before .before .broadcast .ensures,
-      c .before .before .before .before .before .before .before .before .before .before .before .before .before .check-parameter .ensures,
-      c .before .before .before .before .before .before .before .before .before .before .before .before .before .before .check-command .ensures,
-      c .before .before .before .before .before .before .before .before .before .before .before .before .before .before .before .access-of .ensures,
-      c .before .before .before .before .before .before .before .before .before .before .before .before .before .before .before .before .command-of .ensures,
+      c .before .first7 .ensures,
+      c .before .before .first6 .ensures,
+      c .before .before .before .first5 .ensures,
+      c .before .before .before .before .first4 .ensures,
+      c .before .before .before .before .before .first3 .ensures,
+      c .before .before .before .before .before .before .first2 .ensures,
+      c .before .before .before .before .before .before .before .check-number .ensures,
+      c .before .before .before .before .before .before .before .before .first .ensures,
+      c .before .before .before .before .before .before .before .before .before .check-value .ensures,
+      c .before .before .before .before .before .before .before .before .before .before .range-of .ensures,
+      c .before .before .before .before .before .before .before .before .before .before .before .check-state .ensures,
+      c .before .before .before .before .before .before .before .before .before .before .before .before .check-lock .ensures,
+      c .before .before .before .before .before .before .before .before .before .before .before .before .before .check-access .ensures,
+      c .before .before .before .before .before .before .before .before .before .before .before .before .before .before .broadcast .ensures,
+      c .before .before .before .before .before .before .before .before .before .before .before .before .before .before .before .check-parameter .ensures,
+      c .before .before .before .before .before .before .before .before .before .before .before .before .before .before .before .before .check-command .ensures,
+      c .before .before .before .before .before .before .before .before .before .before .before .before .before .before .before .before .before .access-of .ensures,
+      c .before .before .before .before .before .before .before .before .before .before .before .before .before .before .before .before .before .before .command-of .ensures,
     )))

@@ -21,7 +21,7 @@ access-of-spec =
     (λ c. way Unknown 65 63 tt (c .before .before .before .match .rest) (omega arith) (omega arith))
     (λ c. way Unknown 139 28 tt (c .before .before .before .before .before .match .rest) (omega arith) (omega arith))
     (λ c. way Unknown 169 81 tt (c .before .before .before .before .before .before .before .match .rest) (omega arith) (omega arith))
-    (λ c. key WriteOnly (160 ∷ 170 ∷ []) tt _ (c .match .keys3))
+    (λ c. key WriteOnly (160 ∷ 170 ∷ 210 ∷ []) tt _ (c .match .keys3))
     (λ c. way WriteOnly 167 2 tt (c .before .before .before .before .before .before .match .rest) (omega arith) (omega arith))
     (λ c. key ReadOnly (101 ∷ 103 ∷ 150 ∷ 250 ∷ []) tt _ (c .match .keys2))
     (λ c. way ReadOnly 128 11 tt (c .before .before .before .before .match .rest) (omega arith) (omega arith))

@@ -28,6 +28,7 @@ other-spec =
     (λ c. rw (c .match .keys12))
     (λ c. rw (c .match .keys13))
     (λ c. rw (c .match .keys14))
+    (λ c. rw (c .match .keys15))
     (λ c. c .error-at .ensures ∙ other-error (c .before .before .before .match .rest) (c .before .before .if1 .left) (c .before .if2 .taken))
     (λ c. other-none 0 128 tt (c .before .match .rest) zero-le (c .if1 .taken))
     (λ c. other-none 139 117 tt (c .before .before .match .rest) (c .if2 .left) (c .before .before .before .fits .address .fits)))

@@ -15,5 +15,6 @@ other-row-spec =
     (λ c. rw (c .match .keys3))
     (λ c. rw (c .match .keys4))
     (λ c. rw (c .match .keys5))
+    (λ c. rw (c .match .keys6))
     (λ c. let h = c .match .rest in
-    simp (ne-eqb _ _ (h .0 .0 .0 .0 .1), ne-eqb _ _ (h .0 .0 .0 .1), ne-eqb _ _ (h .0 .0 .1), ne-eqb _ _ (h .0 .1), ne-eqb _ _ (h .1))))
+    simp (ne-eqb _ _ (h .0 .0 .0 .0 .0 .1), ne-eqb _ _ (h .0 .0 .0 .0 .1), ne-eqb _ _ (h .0 .0 .0 .1), ne-eqb _ _ (h .0 .0 .1), ne-eqb _ _ (h .0 .1), ne-eqb _ _ (h .1))))

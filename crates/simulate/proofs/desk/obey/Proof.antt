@@ -48,7 +48,6 @@ obey-spec =
     (λ c. search needs)
     (λ c. search needs)
     (λ c κs. tt)
-    (λ c κs. tt)
     (λ c. search needs)
     (λ c. search needs)
     (λ c κs. tt)
@@ -71,9 +70,8 @@ obey-spec =
     let back = toZ-ofZ {w = w32} {z = k .head .given .0 .1 .0} (record { sfits = c .before .before .known-told4 .given .1 .0 .1 }) in
     called d _ _ _ _ (c .done3 .ensures)
     (c .before .measure .ensures ∙ ap (measureOf (d .line) (k .head .given .0 .0)) back) (k .before .before .meaning .ensures) (k .head .given .1) refl)
+    (λ c. let k = c .before .before in c .press .ensures ∙ did _ _ _ _ (k .before .before .meaning .ensures) (k .head2 .given .1))
     (λ c. let k = c .before .before .before in
-    called (k .before .before .before .before .args .d) _ _ _ _ (c .done4 .ensures) (c .before .keys .ensures) (k .before .before .meaning .ensures) (k .head2 .given .1) refl)
-    (λ c. let k = c .before .before .before in
-    called (k .before .before .before .before .args .d) _ _ _ _ (c .done5 .ensures) (c .before .power .ensures) (k .before .before .meaning .ensures) (k .head3 .given .1) refl)
+    called (k .before .before .before .before .args .d) _ _ _ _ (c .done4 .ensures) (c .before .power .ensures) (k .before .before .meaning .ensures) (k .head3 .given .1) refl)
     (λ c. let k = c .before .before in c .spaced .ensures ∙ did _ _ _ _ (k .before .before .meaning .ensures) (k .size .given .1))
     (λ c. let k = c .before .before .before in did _ _ _ _ (k .before .before .meaning .ensures) (k .head4 .given .1)))

@@ -12,4 +12,5 @@ stored-spec =
     (tie.spec
     (λ c κs. search needs)
     (λ c κs. search needs)
-    (λ c. rw (c .before .all-right .ensures, c .fits-at .ensures)))
+    (λ c κs. search needs)
+    (λ c. rw (c .before .before .all-right .ensures, c .before .fits-at .ensures, c .offer .ensures)))
