@@ -16,6 +16,9 @@ const LONGEST_GAP: u32 = 10;
 const TIMEOUT_STEP: u32 = 100;
 const DAMAGED_FOR_AN_ERROR: u32 = 3;
 
+/// The value of A0h that restarts the head.
+const RESTART: u32 = 9;
+
 const CONTROL_SET_POINT_1_VALID: u16 = 1 << 2;
 const CONTROL_CLEAR_STATIC: u16 = 1 << 4;
 const CONTROL_ACKNOWLEDGE: u16 = 1 << 5;
@@ -243,9 +246,8 @@ impl Head {
     // A telegram's way through the head.
 
     fn hear(&mut self, time: u32, telegram: Telegram) -> Option<Reply> {
-        let status_word_before = self.status_word();
         if telegram.exclusive_or() != 0 {
-            return self.hear_damaged(&telegram, status_word_before);
+            return self.hear_damaged(&telegram);
         }
         self.running.damaged_in_a_row = 0;
         self.running.monitor_started_at = Some(time);
@@ -255,16 +257,18 @@ impl Head {
                 if aborts_auto_id(&telegram, code) {
                     self.running.number_on_offer = None;
                 }
-                self.refuse(&telegram, status_word_before, code)
+                self.refuse(&telegram, code)
             }
             Verdict::Obeyed => {
+                let old_word = keeps_the_old_word(&telegram).then(|| self.status_word());
                 let data = self.obey(&telegram);
-                is_answered(&telegram).then(|| telegram.reply(status_word_before, data))
+                let status_word = old_word.unwrap_or_else(|| self.status_word());
+                is_answered(&telegram).then(|| telegram.reply(status_word, data))
             }
         }
     }
 
-    fn hear_damaged(&mut self, telegram: &Telegram, status_word_before: u16) -> Option<Reply> {
+    fn hear_damaged(&mut self, telegram: &Telegram) -> Option<Reply> {
         self.running.bits_hit = telegram.exclusive_or();
         self.running.damaged_in_a_row += 1;
         if self.running.damaged_in_a_row == DAMAGED_FOR_AN_ERROR {
@@ -274,7 +278,7 @@ impl Head {
         if telegram.node() != self.number_in_force {
             return None;
         }
-        self.refuse(telegram, status_word_before, CHECK_SUM)
+        self.refuse(telegram, CHECK_SUM)
     }
 
     /// Checks 2 to 7, the first that applies decides.
@@ -328,13 +332,14 @@ impl Head {
         Ok(())
     }
 
-    /// Only an error reply that is sent enters the input list, so a refused broadcast leaves none.
-    fn refuse(&mut self, telegram: &Telegram, status_word_before: u16, code: ErrorCode) -> Option<Reply> {
+    /// Only an error reply that is sent enters the input list, so a refused broadcast leaves none. Its word is
+    /// that after all the telegram does, so that a third damaged one shows the error that it raises.
+    fn refuse(&mut self, telegram: &Telegram, code: ErrorCode) -> Option<Reply> {
         if telegram.is_broadcast() {
             return None;
         }
         self.running.input_errors.enter(code);
-        Some(telegram.error_reply(status_word_before, code))
+        Some(telegram.error_reply(self.status_word(), code))
     }
 
     /// Does what the telegram asks and gives the data of its reply, if it is one that is answered.
@@ -407,7 +412,7 @@ impl Head {
             5 => self.reset(|address| rows::BUS_PARAMETERS.contains(&address)),
             7 => self.calibrate(),
             8 => self.error_memory = ErrorList::default(),
-            9 => self.restart(),
+            RESTART => self.restart(),
             _ => unreachable!("the range check let {value} through"),
         }
     }
@@ -599,6 +604,18 @@ fn place_of(address: u8) -> usize {
 /// An offer is answered by the key that adopts it, a broadcast never.
 fn is_answered(telegram: &Telegram) -> bool {
     !telegram.is_broadcast() && telegram.parameter() != rows::AUTO_ID
+}
+
+/// Whether the reply to a telegram that is obeyed has the status word from before it, as only few have: writes
+/// of the set points, by the manual's notice; the read of FAh, which clears the static bit only after showing
+/// it; and A0h 9, which replies before it restarts.
+fn keeps_the_old_word(telegram: &Telegram) -> bool {
+    match telegram.parameter() {
+        rows::SET_POINT_1 | rows::SET_POINT_2 => telegram.command() == WRITE,
+        rows::STATUS_WORD => true,
+        rows::SYSTEM_COMMAND => telegram.data() == RESTART,
+        _ => false,
+    }
 }
 
 /// Whether a telegram is refused for an illegal new number: only a write at a head that could take one comes

@@ -1,4 +1,5 @@
-//! The manual's worked examples, with the check sums that the formula gives and the status words of document 01.
+//! The manual's worked examples, with the check sums that the formula gives and the status words of document 01
+//! as request (iii) has them.
 
 mod common;
 use common::{Desk, READ, WRITE};

@@ -13,7 +13,6 @@ use Rattle.wire.specs.Check.{hitOf}
 use Rattle.judge.specs.declared.deed.Deed.the-variants.{Restart}
 use Rattle.judge.specs.Judged.{judgedOf}
 use Rattle.state.specs.declared.parts.Head.{Head}
-use Rattle.state.specs.Status.{statusOf}
 use Rattle.state.specs.Wellformed.{wellformedOf}
 use Rattle.head.specs.declared.calls.Heard.{Heard}
 use Rattle.head.specs.declared.calls.Heard.the-variants as heard
@@ -43,12 +42,12 @@ module _ (h : Head) (b t : ℕ) (space : List ℕ) (k : Taken h space) where
     unfolding byteOf stepOf tellOf
     obeys = simp (k .well, wide, e)
 
-    pub answers : let j = judgedOf (gatheredOf (h .ear) b t .ten) (standingOf h) in replyOf j h (statusOf h) .replied ≡ true
-        → (byteOf h b t (length space) .heard ≡ heard.Replies 1) × (byteSpaceOf h b t space ≡ replyOf j h (statusOf h) .reply ++ drop 10 space)
+    pub answers : let j = judgedOf (gatheredOf (h .ear) b t .ten) (standingOf h) in replyOf j h (toldOf j h t) .replied ≡ true
+        → (byteOf h b t (length space) .heard ≡ heard.Replies 1) × (byteSpaceOf h b t space ≡ replyOf j h (toldOf j h t) .reply ++ drop 10 space)
     unfolding byteOf byteSpaceOf stepOf tellOf laidOn
     answers r = (simp (k .well, wide, e, r), simp (k .well, wide, e, r))
 
-    pub keeps-silent : let j = judgedOf (gatheredOf (h .ear) b t .ten) (standingOf h) in replyOf j h (statusOf h) .replied ≡ false
+    pub keeps-silent : let j = judgedOf (gatheredOf (h .ear) b t .ten) (standingOf h) in replyOf j h (toldOf j h t) .replied ≡ false
         → (byteOf h b t (length space) .heard ≡ heard.Replies 0) × (byteSpaceOf h b t space ≡ space)
     unfolding byteOf byteSpaceOf stepOf tellOf
     keeps-silent r = (simp (k .well, wide, e, r), simp (k .well, wide, e, r))
@@ -61,7 +60,7 @@ step-sound : (h : Head) (b t : ℕ) (w : Bool) → gatheredOf (h .ear) b t .whol
 unfolding stepOf tellOf
 step-sound h b t true e r =
     let j = judgedOf (gatheredOf (h .ear) b t .ten) (standingOf h) in
-    rw e (reply-sound j h (statusOf h) (rw e at r), reply-ten j h (statusOf h))
+    rw e (reply-sound j h (toldOf j h t) (rw e at r), reply-ten j h (toldOf j h t))
 step-sound h b t false e r = absurd (true≢false (sym (rw e at r)))
 
 laid-sound : (space x : List ℕ) → ltb (length space) 10 ≡ false → Sound x → hitOf (take 10 (laidOn space x)) ≡ 0

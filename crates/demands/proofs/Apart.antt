@@ -17,6 +17,7 @@ use Rattle.state.specs.declared.parts.Head.{Head}
 use Rattle.state.specs.declared.parts.Ear.{Ear}
 use Rattle.state.specs.Status.{statusOf}
 use Rattle.state.specs.Wellformed.{wellformedOf}
+use Rattle.reply.specs.Word.{carriedOf}
 use Rattle.reply.specs.Reply.{showsOf, readOf, answerOf, valueReply, replyBy, replyOf}
 use Rattle.head.specs.declared.hear.Gathered.{Gathered}
 use Rattle.head.specs.declared.hear.Stepped.{Stepped}
@@ -57,9 +58,14 @@ module _ (h : Head) (e : Ear) (x n : ℕ) where
   by-apart Silent j w = refl
   by-apart (Refused f) j w = refl
 
-  pub reply-apart : (j : Judged) (w : ℕ) → replyOf j other w ≡ replyOf j h w
-  unfolding replyOf
-  reply-apart j w = by-apart (j .verdict) j w
+  status-apart : statusOf other ≡ statusOf h
+  unfolding statusOf
+  status-apart = refl
+
+  -- where the word of after is the same
+  pub reply-apart : (j : Judged) (k l : Head) → statusOf k ≡ statusOf l → replyOf j other k ≡ replyOf j h l
+  unfolding replyOf carriedOf
+  reply-apart j k l same = rw (same, status-apart) (by-apart (j .verdict) j (carriedOf (j .deed) h l))
 
 -- ---- a byte: the same reply, and heads that are alike, of whatever that says
 abbrev pub Steps : (Head → Head → Type 0) → Stepped → Stepped → Type 0

@@ -28,7 +28,6 @@ use Rattle.judge.proofs.Laws.{isObeyed}
 use Rattle.judge.proofs.Offers.{offerRange, assignmentOf, assignment-is}
 use Rattle.state.specs.declared.parts.Head.{Head}
 use Rattle.state.specs.declared.parts.Stored as parts
-use Rattle.state.specs.Status.{statusOf}
 use Rattle.effects.specs.Stored.{withOffer, storedBy}
 use Rattle.effects.specs.Faults.{complainedOf, faultsBy}
 use Rattle.effects.specs.Measured.{measurementBy}
@@ -87,9 +86,9 @@ module _ (h : Head) (ten : List ℕ) where
     unfolding judgedOf deedOf doneBy commandOf
     offers = rw (obeyed, a .commanded, a .assigns, assignment-kind)
 
-    mute : (word : ℕ) → replyOf j h word .replied ≡ false
+    mute : (after : Head) → replyOf j h after .replied ≡ false
     unfolding judgedOf replyOf valueReply silence commandOf
-    mute word = rw (obeyed, a .commanded, a .assigns)
+    mute after = rw (obeyed, a .commanded, a .assigns)
 
     told-offer : (at : ℕ) → toldOf j h at ≡ withStored (passedOf h at) (withOffer (h .stored) (t .value))
     unfolding toldOf storedBy faultsBy complainedOf measurementBy targetsBy restartsOf passedOf judgedOf
@@ -172,7 +171,7 @@ module _ (h : Head) (ten : List ℕ) where
         go (sorts.system p) = rw (p, system-kind) (system-way Leaves (t .value) (λ _ s. refl) (λ _ s. refl) (λ _ s. refl) (λ _ s. refl))
         go (sorts.interlock p) = rw (p, interlock-kind) (λ s. refl)
         go (sorts.assignment p) = never (accepted-assigns p e)
-        go (sorts.other p q r o) = other-deed Leaves (t .value) (t .word) (t .parameter) p q r o (λ s. refl) (λ s. refl) (λ s. refl) (λ s. refl) (λ s. refl)
+        go (sorts.other p q r o) = other-deed Leaves (t .value) (t .word) (t .parameter) p q r o (λ s. refl) (λ _ s. refl) (λ _ s. refl) (λ _ s. refl) (λ _ s. refl)
 
     deed-leaves : Leaves (j .deed)
     unfolding storedBy shownBy standingOf
@@ -197,7 +196,7 @@ offers-met =
     record {
       remembers = λ h b t space k e a n low high.
           let ten = gatheredOf (h .ear) b t .ten in
-          let s = keeps-silent h b t space k e (mute h ten a n low high (statusOf h)) in
+          let s = keeps-silent h b t space k e (mute h ten a n low high _) in
           (s .0, s .1, rw (obeys h b t space k e) (told-passed h ten t a n low high));
       drops = dropped;
       elsewhere = λ h b t space k e a n. refused-told h b t space k e DeviceState (elsewhere h (gatheredOf (h .ear) b t .ten) a n);
@@ -205,7 +204,7 @@ offers-met =
       above = λ h b t space k e c l a. refused-told h b t space k e NoAccess (beyond h (gatheredOf (h .ear) b t .ten) c l a);
       uncast = λ h b t space k e s c p.
           let v = uncast h (gatheredOf (h .ear) b t .ten) s c p in
-          let q = keeps-silent h b t space k e (silent-none _ h (statusOf h) v) in
+          let q = keeps-silent h b t space k e (silent-none _ h _ v) in
           (q .0, q .1, rw (obeys h b t space k e) (told-silent h (gatheredOf (h .ear) b t .ten) t s v));
       leaves = λ h b t space k e quiet n.
           ap (λ (x : Head). x .stored .offer) (obeys h b t space k e) ∙ told-leaves h (gatheredOf (h .ear) b t .ten) quiet t n;

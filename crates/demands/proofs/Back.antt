@@ -3,14 +3,13 @@
 -- Assumes nothing.
 use Prim.Native.Nat.{ℕ, suc, _<_, _≤_}
 use mathlib.Core.Path.{_≡_, refl, sym, _∙_, ap}
-use mathlib.Core.Bool.{Bool, true, false, and-false}
+use mathlib.Core.Bool.{Bool, true, false}
 use mathlib.Core.List.{List, [], _∷_}
 use native.Mathlib.Omega.{arith}
 use borrow.Author.Tests.{le-ltb, eq-eqb, ne-eqb}
 use lib.Dec.{eqb}
 use lib.ListN.{length, take, drop}
 use lib.Seq.{take-at}
-use Rattle.wire.specs.declared.telegram.Telegram.{Telegram}
 use Rattle.wire.specs.Check.{hitOf}
 use Rattle.wire.specs.Telegram.{fieldsOf, nineOf, bytesOf}
 use Rattle.wire.proofs.Laws.{word-bytes, built-sound}
@@ -24,20 +23,18 @@ use Rattle.rows.proofs.Groups.{group-agrees}
 use Rattle.judge.specs.declared.command.Command.the-variants.{Read}
 use Rattle.judge.specs.declared.judged.Judged.{Judged}
 use Rattle.judge.specs.declared.verdict.Verdict.the-variants.{Obeyed}
-use Rattle.judge.specs.declared.verdict.Standing.{Standing}
 use Rattle.judge.specs.Commands.{commandOf}
-use Rattle.judge.specs.Checks.{_else_, sumCheck, nodeCheck, commandCheck, parameterCheck, accessCheck, lockCheck, stateCheck, valueCheck, numberCheck, hushOf}
-use Rattle.judge.specs.Verdicts.{lateOf, mineOf, verdictOf}
+use Rattle.judge.specs.Verdicts.{verdictOf}
 use Rattle.judge.specs.Judged.{judgedOf}
 use Rattle.state.specs.declared.parts.Head.{Head}
 use Rattle.state.specs.Settings.{valueAt}
-use Rattle.state.specs.Status.{statusOf}
 use Rattle.state.specs.Wellformed.{earFits, wellformedOf}
 use Rattle.state.proofs.Laws.{told, holds}
 use Rattle.effects.specs.Restart.{emptyEar}
 use Rattle.reply.specs.Reply.{readOf, valueReply, replyOf}
 use Rattle.reply.specs.Reply as reply
-use Rattle.head.specs.Hear.{standingOf, gatheredOf, tellOf, withEar, stepOf}
+use Rattle.reply.specs.Word.{carriedOf}
+use Rattle.head.specs.Hear.{standingOf, gatheredOf, toldOf, tellOf, withEar, stepOf}
 use Rattle.head.specs.Calls.{laidOn, byteOf, byteSpaceOf}
 use Rattle.reply.proofs.Replies.{reply-ten}
 use Rattle.head.proofs.Keeps.{step-fits}
@@ -50,6 +47,7 @@ use Rattle.demands.proofs.Sim.{sim}
 use Rattle.demands.proofs.Range.{well-at, value-small}
 use Rattle.demands.proofs.Whole.{said, whole}
 use Rattle.demands.proofs.Sorts.{number-access}
+use Rattle.demands.proofs.Telling.{read-obeyed}
 
 -- ---- a sound read of one of the 39, at the number in force, is obeyed
 row-kind : (r : ℕ) → r < 39 → kindOf (address (rowOf r)) ≡ Stored r
@@ -62,15 +60,11 @@ row-access r lt = sym (group-agrees (address (rowOf r)) (row-below r lt)) ∙ ap
 not-number : (a : ℕ) → accessOf a ≡ ReadWrite → eqb a 0x96 ≡ false
 not-number a e = ne-eqb a 0x96 (λ q. let z : _≡_ {A = ℕ} 0 1 = cc (number-access a (eq-eqb a 0x96 q)) in omega arith)
 
-read-obeyed : (t : Telegram) (s : Standing) → commandOf (t .command) ≡ Read → mineOf t s ≡ true → accessOf (t .parameter) ≡ ReadWrite → verdictOf 0 t s ≡ Obeyed
-unfolding verdictOf sumCheck nodeCheck lateOf hushOf commandCheck parameterCheck accessCheck lockCheck stateCheck valueCheck numberCheck _else_
-read-obeyed t s c m a = rw (c, m, a, not-number (t .parameter) a, and-false)
-
 -- ---- so the head answers it with the value
-read-said : (j : Judged) (h : Head) (word : ℕ) {i : ℕ} → j .verdict ≡ Obeyed → j .command ≡ Read → j .kind ≡ Stored i
-    → replyOf j h word ≡ reply.said (j .telegram) (j .telegram .parameter) word (valueAt (h .stored .values) i)
+read-said : (j : Judged) (h after : Head) {i : ℕ} → j .verdict ≡ Obeyed → j .command ≡ Read → j .kind ≡ Stored i
+    → replyOf j h after ≡ reply.said (j .telegram) (j .telegram .parameter) (carriedOf (j .deed) h after) (valueAt (h .stored .values) i)
 unfolding replyOf valueReply readOf
-read-said j h word v c k = rw (v, c, k)
+read-said j h after v c k = rw (v, c, k)
 
 abbrev sent : ℕ → ℕ → ℕ → ℕ → List ℕ
 sent f r word v = bytesOf (record { command = 0; node = f; parameter = address (rowOf r); word = word; value = v })
@@ -82,11 +76,15 @@ module _ (h : Head) (f r v word data′ t : ℕ) (lt : r < 39) (force-is : h .st
   read-verdict : verdictOf (hitOf ten) (fieldsOf ten) (standingOf h) ≡ Obeyed
   unfolding fieldsOf bytesOf standingOf commandOf
   read-verdict =
-      rw (built-sound _) (read-obeyed (fieldsOf ten) (standingOf h) refl (eq-eqb f _ (sym force-is)) (row-access r lt))
+      rw (built-sound _)
+      (read-obeyed (fieldsOf ten) (standingOf h) refl (eq-eqb f _ (sym force-is)) ReadWrite (row-access r lt) refl (rw (not-number (address (rowOf r)) (row-access r lt))))
 
-  read-told : saidBy (tellOf h ten t) ≡ sent f r (statusOf h) v ∷ []
+  abbrev told-word : ℕ
+  told-word = let j = judgedOf ten (standingOf h) in carriedOf (j .deed) h (toldOf j h t)
+
+  read-told : saidBy (tellOf h ten t) ≡ sent f r told-word v ∷ []
   unfolding tellOf judgedOf fieldsOf bytesOf commandOf reply.said
-  read-told = rw (read-said (judgedOf ten (standingOf h)) h (statusOf h) read-verdict refl (row-kind r lt), value-is)
+  read-told = rw (read-said (judgedOf ten (standingOf h)) h _ read-verdict refl (row-kind r lt), value-is)
 
 -- and the data of what it says are the value
 sent-value : (f r word v : ℕ) → v < 4294967296 → fieldsOf (sent f r word v) .value ≡ v
@@ -99,7 +97,7 @@ unfolding stepOf tellOf
 step-ten h b t = go (gatheredOf (h .ear) b t .whole) refl
   where
     go : (x : Bool) → gatheredOf (h .ear) b t .whole ≡ x → length (stepOf h b t .reply) ≡ 10
-    go true e = rw e (reply-ten _ h (statusOf h))
+    go true e = rw e (reply-ten _ h _)
     go false e = rw e
 
 module _ (space : List ℕ) (wide : 10 ≤ length space) where
@@ -134,11 +132,11 @@ module _ (h : Head) (f r v : ℕ) (lt : r < 39) (well : wellformedOf h ≡ true)
   read-back =
       record {
         reads-back = λ τ word data′ space steady wide. (
-          sent f r (statusOf none) v,
+          sent f r (told-word none f r v word data′ (τ 9) lt force-is value-is) v,
           calls-said space wide (sent f r word data′) τ 0 none none-well
               ∙ whole τ steady none refl refl (nineOf (record { command = 0; node = f; parameter = address (rowOf r); word = word; value = data′ })) _ refl .1
               ∙ read-told none f r v word data′ (τ 9) lt force-is value-is,
-          record { passes = built-sound _; own = refl; shown = sent-value f r (statusOf none) v small },
+          record { passes = built-sound _; own = refl; shown = sent-value f r (told-word none f r v word data′ (τ 9) lt force-is value-is) v small },
         );
       }
 

@@ -24,6 +24,7 @@ use Rattle.effects.specs.Faults.{raisedOf, countedOf, complainedOf, acknowledge
 use Rattle.effects.specs.Measured.{calibratedOf, switchedOf, frozenOf, releasedOf, movedOf, restartedMeasurement, measurementBy}
 use Rattle.effects.specs.Aimed.{noTargets, settledOf, firstAimed, secondAimed, clearedOf, targetsBy}
 use Rattle.effects.specs.Restart.{emptyEar, stopped, restartedOf, adoptedOf, deliveredOf, freshOf}
+use Rattle.reply.specs.Word.{keepsOld, carriedOf}
 use Rattle.reply.specs.Reply.{inputOf, positionWord, readOf, answerOf, silence, said, errorReply, valueReply, replyOf, adoptionOf}
 use Rattle.head.specs.Hear.{elapsedOf, keptEar, gatheredOf, standingOf, restartsOf, startedOf, toldOf, tellOf, stepOf}
 use Rattle.state.specs.Wellformed.{inReachOf, offerFits, storedFits, faultsFit, keptFits, measurementFits, earFits, wellformedOf}
@@ -35,5 +36,5 @@ use Rattle.demands.specs.Past.{delivered, mayAdd, grown, since, gather, 
 use Rattle.demands.specs.Run.{runs, after, askOf}
 
 unfoldable pub computing : Unit {0}
-unfolding hitOf fieldsOf bytesOf numberOf wordOf distanceOf divisorOf roundedOf heldOf differentialOf absoluteOf relativeOf rows rowOf placeOf accessOf broadcastOf otherOf kindOf busOf resetsOf fitsIn allRightOf isSignedOf readingOf unlistedOf betweenOf rangeIn otherRowOf rangeOf commandOf _else_ sumCheck nodeCheck commandCheck parameterCheck accessCheck lockableOf lockCheck stateCheck rangeCheck valueCheck numberCheck hushOf lateOf verdictOf systemOf doneBy shownBy refusedBy deedOf judgedOf emptyList rememberedOf entryOf positionOf actualOf shownOf viewOf aimOf aimBitsOf restBitsOf aimedOf statusOf withinOf differenceOf lockedOf adoptedStored restartedStored storedBy raisedOf countedOf complainedOf acknowledgedOf restartedFaults faultsBy restartedMeasurement measurementBy noTargets settledOf secondAimed targetsBy emptyEar stopped restartedOf adoptedOf deliveredOf freshOf inputOf readOf answerOf silence said errorReply valueReply replyOf adoptionOf elapsedOf keptEar gatheredOf standingOf restartsOf startedOf toldOf tellOf stepOf inReachOf offerFits storedFits faultsFit keptFits measurementFits earFits wellformedOf head.factoryOf head.nodeFits head.laidOn head.byteOf head.byteSpaceOf head.powerOf head.tickOf head.madeOf alone.called line.emptyOf line.fitsOf line.growOf line.byteOf line.byteSpaceOf line.measureOf line.keysOf line.keysSpaceOf line.powerOf line.namedOf line.placedOf head.measureOf head.keysOf head.keysSpaceOf head.lastHitOf line.lastHitOf line.tickOf pressedOf leftOf upOf keyedOf tickedOf measuredOf overdueOf movedOf calibratedOf switchedOf frozenOf releasedOf resetValue resetOf firstAimed clearedOf positionWord delivered mayAdd grown since gather kept earBy lockable accepted gives withdrawn hearing pressed change look next account runs after askOf
+unfolding hitOf fieldsOf bytesOf numberOf wordOf distanceOf divisorOf roundedOf heldOf differentialOf absoluteOf relativeOf rows rowOf placeOf accessOf broadcastOf otherOf kindOf busOf resetsOf fitsIn allRightOf isSignedOf readingOf unlistedOf betweenOf rangeIn otherRowOf rangeOf commandOf _else_ sumCheck nodeCheck commandCheck parameterCheck accessCheck lockableOf lockCheck stateCheck rangeCheck valueCheck numberCheck hushOf lateOf verdictOf systemOf doneBy shownBy refusedBy deedOf judgedOf emptyList rememberedOf entryOf positionOf actualOf shownOf viewOf aimOf aimBitsOf restBitsOf aimedOf statusOf withinOf differenceOf lockedOf adoptedStored restartedStored storedBy raisedOf countedOf complainedOf acknowledgedOf restartedFaults faultsBy restartedMeasurement measurementBy noTargets settledOf secondAimed targetsBy emptyEar stopped restartedOf adoptedOf deliveredOf freshOf keepsOld carriedOf inputOf readOf answerOf silence said errorReply valueReply replyOf adoptionOf elapsedOf keptEar gatheredOf standingOf restartsOf startedOf toldOf tellOf stepOf inReachOf offerFits storedFits faultsFit keptFits measurementFits earFits wellformedOf head.factoryOf head.nodeFits head.laidOn head.byteOf head.byteSpaceOf head.powerOf head.tickOf head.madeOf alone.called line.emptyOf line.fitsOf line.growOf line.byteOf line.byteSpaceOf line.measureOf line.keysOf line.keysSpaceOf line.powerOf line.namedOf line.placedOf head.measureOf head.keysOf head.keysSpaceOf head.lastHitOf line.lastHitOf line.tickOf pressedOf leftOf upOf keyedOf tickedOf measuredOf overdueOf movedOf calibratedOf switchedOf frozenOf releasedOf resetValue resetOf firstAimed clearedOf positionWord delivered mayAdd grown since gather kept earBy lockable accepted gives withdrawn hearing pressed change look next account runs after askOf
 computing = tt

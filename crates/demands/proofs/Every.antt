@@ -1,84 +1,63 @@
 -- What is the same for every telegram: the laws of Telling over the byte call; and an error reply, an accepted write and a telegram that is passed over, each
 -- known by what can be seen of it.
 -- Assumes nothing.
-use Prim.Native.Nat.{ℕ, _<_}
+use Prim.Native.Nat.{ℕ, _<_, _≤_}
 use native.Mathlib.Omega.{arith}
-use mathlib.Core.Path.{_≡_, refl, sym, _∙_, ap}
-use mathlib.Core.Bool.{Bool, true, false, not, and-eq-true-iff, true≢false}
+use mathlib.Core.Path.{_≡_, refl, sym, _∙_, ap, subst}
+use mathlib.Core.Bool.{Bool, _&&_, true, false, and-eq-true-iff, true≢false}
 use mathlib.Core.Logic.{_≢_}
 use mathlib.Core.List.{List}
-use borrow.Author.Tests.{ne-eqb}
-use lib.Dec.{eqb}
-use lib.ListN.{length, take, drop}
-use lib.Seq.{take-at}
-use Rattle.wire.specs.declared.telegram.Telegram.{Telegram}
+use borrow.Author.Tests.{ne-eqb, eqb-true, eq-eqb, le-ltb}
+use lib.Dec.{eqb, ltb}
+use lib.ListN.{length, take}
 use Rattle.wire.specs.declared.fault.Fault.{Fault}
+use Rattle.wire.specs.declared.telegram.Telegram.{Telegram}
 use Rattle.wire.specs.Check.{hitOf}
 use Rattle.wire.specs.Faults.{codeOf}
-use Rattle.wire.specs.Telegram.{fieldsOf, bytesOf}
-use Rattle.wire.proofs.Laws.{word-bytes}
-use Rattle.judge.specs.declared.command.Command.{Command}
-use Rattle.judge.specs.declared.command.Command.the-variants.{Read, Write, Broadcast, Other}
+use Rattle.wire.specs.Telegram.{fieldsOf}
+use Rattle.wire.specs.Word.{byte0}
+use Rattle.signed.proofs.Laws.{word-fits}
+use Rattle.rows.specs.Access.{accessOf}
+use Rattle.rows.specs.Kinds.{kindOf}
+use Rattle.judge.specs.declared.deed.Deed.{Deed}
+use Rattle.judge.specs.declared.deed.Deed.the-variants.{Aim2}
 use Rattle.judge.specs.declared.judged.Judged.{Judged}
 use Rattle.judge.specs.declared.verdict.Verdict.{Verdict}
 use Rattle.judge.specs.declared.verdict.Verdict.the-variants.{Obeyed, Silent, Refused}
 use Rattle.judge.specs.Commands.{commandOf}
+use Rattle.judge.specs.Deeds.{doneBy}
 use Rattle.judge.specs.Judged.{judgedOf}
-use Rattle.judge.proofs.Laws.{isObeyed, cast-never-refused}
+use Rattle.judge.proofs.Laws.{isObeyed, cast-never-refused, obeyed-sound}
 use Rattle.judge.proofs.Offers.{drops}
 use Rattle.state.specs.declared.parts.Head.{Head}
 use Rattle.state.specs.declared.parts.Stored as parts
 use Rattle.state.specs.declared.parts.Faults.{Faults}
-use Rattle.state.specs.Status.{statusOf}
-use Rattle.effects.specs.Stored.{lockedOf}
+use Rattle.state.specs.Settings.{responsePlace}
+use Rattle.effects.specs.Stored.{lockedOf, storedBy}
 use Rattle.effects.specs.Faults.{countedOf, complainedOf}
+use Rattle.effects.specs.Measured.{measurementBy}
+use Rattle.effects.specs.Aimed.{settledOf, secondAimed, targetsBy}
 use Rattle.effects.specs.Restart.{emptyEar}
-use Rattle.reply.specs.declared.Said.{Said}
-use Rattle.reply.specs.Reply.{silence, said, answerOf, valueReply, replyBy, replyOf}
-use Rattle.reply.proofs.Replies.{reply-ten, silent-none}
+use Rattle.reply.specs.Reply.{answerOf, replyOf}
+use Rattle.reply.proofs.Replies.{silent-none, cast-none}
 use Rattle.head.specs.declared.calls.Heard.the-variants as heard
-use Rattle.head.specs.Hear.{gatheredOf, standingOf, startedOf, toldOf, passesOf, passedOf, tellOf}
+use Rattle.head.specs.Hear.{gatheredOf, standingOf, startedOf, toldOf, passesOf, passedOf, tellOf, restartsOf}
 use Rattle.head.specs.declared.hear.Stepped.{Stepped}
 use Rattle.head.proofs.Passes.{passes-tell}
 use Rattle.head.proofs.Refused.{silent, refused, unheeded-only}
 use Rattle.demands.specs.Run.{product}
-use Rattle.demands.specs.Alone.{Taken}
+use Rattle.demands.specs.Alone.{Taken, setting}
 use Rattle.demands.specs.Past.{accepted}
-use Rattle.demands.specs.Every.{Passed, Complained, locked, Every}
-use Rattle.demands.proofs.Telegram.{accepted-is}
-use Rattle.demands.proofs.Answers.{obeys, answers, keeps-silent}
-use Rattle.demands.proofs.Telling.{either, judging, copies, read-still, still-polls, write-sets, setting-keeps, told-stays, told-starts, complained-is, told-spares, unheeded-faults, told-counts, refused-told, refuses, told-complains}
+use Rattle.demands.specs.Acts.{actOf, Acted}
+use Rattle.demands.specs.Every.{Passed, Complained, locked, Every, readable, aimAnswer}
+use Rattle.demands.proofs.Sorts.{second-kind}
+use Rattle.demands.proofs.Telegram.{accepted-is, deed-is, done-restarts}
+use Rattle.demands.proofs.Acts.{done-acts, after}
+use Rattle.demands.proofs.Words.{copies}
+use Rattle.demands.proofs.Answers.{obeys, keeps-silent}
+use Rattle.demands.proofs.Telling.{either, judging, told, said-told, heeded, read-says, write-says, read-obeyed, read-polls, write-sets, setting-keeps, told-stays, told-starts, complained-is, counted-sound, counted-inputs, told-spares, unheeded-faults, told-counts, refused-told, refuses, told-complains}
 
--- ---- an error reply, known by its parameter: what is obeyed is answered with the telegram's own
-abbrev Own : Telegram → Said → Type 0
-Own t s = s .replied ≡ true → fieldsOf (s .reply) .parameter ≡ t .parameter
-
-said-own : (t : Telegram) (word value : ℕ) → Own t (said t (t .parameter) word value)
-unfolding said fieldsOf bytesOf
-said-own t word value e = refl
-
-silence-own : (t : Telegram) → Own t silence
-unfolding silence
-silence-own t e = absurd (true≢false (sym e))
-
-value-own : (c : Command) (j : Judged) (h : Head) (word : ℕ) → j .command ≡ c → Own (j .telegram) (valueReply j h word)
-unfolding valueReply
-value-own Read j h word e = rw e (said-own (j .telegram) word _)
-value-own Write j h word e =
-    rw e (either (Own (j .telegram)) (not (eqb (j .telegram .parameter) 0xD2)) (said-own (j .telegram) word _) (silence-own (j .telegram)))
-value-own Broadcast j h word e = rw e (silence-own (j .telegram))
-value-own Other j h word e = rw e (silence-own (j .telegram))
-
-reply-own : (v : Verdict) (j : Judged) (h : Head) (word : ℕ) → v ≡ Obeyed → Own (j .telegram) (replyBy v j h word)
-reply-own Obeyed j h word e = value-own (j .command) j h word refl
-reply-own Silent j h word e = silence-own (j .telegram)
-reply-own (Refused f) j h word e = let z : _≡_ {A = ℕ} 0 1 = cc in absurd (omega arith)
-
--- the errors but for the input list, after a sound telegram that is refused
-counted-sound : (x : ℕ) (f : Faults) → x ≡ 0 → (countedOf x f .memory ≡ f .memory) × (countedOf x f .pending ≡ f .pending)
-unfolding countedOf
-counted-sound x f e = rw e (refl, refl)
-
+-- ---- an error reply, known by its parameter
 refused-keeps : (ten : List ℕ) (h : Head) (t : ℕ) (f : Fault) → let j = judgedOf ten (standingOf h) in
     j .verdict ≡ Refused f → Complained h (toldOf j h t) (j .hit) (codeOf f)
 unfolding complainedOf emptyEar
@@ -107,27 +86,12 @@ errs : (h : Head) (b t : ℕ) (space : List ℕ) → Taken h space → gatheredO
     product .onHead .byte h b t (length space) .heard ≡ heard.Replies 1 → x .parameter ≡ 0xFD → fieldsOf ten .parameter ≢ 0xFD
     → Complained h (product .onHead .byte h b t (length space) .head) (hitOf ten) (x .value)
 unfolding judgedOf replyOf
-errs h b t space k e one fd other = go (judging h b t .verdict) refl
-  where
-    ten : List ℕ
-    ten = gatheredOf (h .ear) b t .ten
-
-    none : replyOf (judging h b t) h (statusOf h) .replied ≡ false → ⊥
-    none r = let no = keeps-silent h b t space k e r .0 in let z : _≡_ {A = ℕ} 0 1 = cc in omega arith
-
-    own : judging h b t .verdict ≡ Obeyed → (r : Bool) → replyOf (judging h b t) h (statusOf h) .replied ≡ r → ⊥
-    own v true r =
-        let is : fieldsOf (take 10 (product .onHead .space h b t space)) .parameter ≡ fieldsOf ten .parameter =
-        rw (answers h b t space k e r .1, take-at (replyOf (judging h b t) h (statusOf h) .reply) (drop 10 space) 10 (reply-ten (judging h b t) h (statusOf h)))
-        (reply-own (judging h b t .verdict) (judging h b t) h (statusOf h) v r) in
-        other (sym is ∙ fd)
-    own v false r = none r
-
-    go : (v : Verdict) → judging h b t .verdict ≡ v
-        → Complained h (product .onHead .byte h b t (length space) .head) (hitOf ten) (fieldsOf (take 10 (product .onHead .space h b t space)) .value)
-    go Obeyed v = absurd (own v (replyOf (judging h b t) h (statusOf h) .replied) refl)
-    go Silent v = absurd (none (silent-none _ h (statusOf h) v))
-    go (Refused f) v = rw (obeys h b t space k e, refused-told h b t space k e f v .2) (refused-keeps ten h t f v)
+errs h b t space k e one fd other =
+    let ten = gatheredOf (h .ear) b t .ten in
+    let x = fieldsOf (take 10 (product .onHead .space h b t space)) in
+    heeded h b t space k e one (Complained h (product .onHead .byte h b t (length space) .head) (hitOf ten) (x .value))
+    (λ v own loud. absurd (other (sym own ∙ fd)))
+    (λ f v. rw (obeys h b t space k e, refused-told h b t space k e f v .2) (refused-keeps ten h t f v))
 
 -- ---- a write that is accepted is answered
 is-obeyed : (v : Verdict) → isObeyed v ≡ true → v ≡ Obeyed
@@ -135,41 +99,118 @@ is-obeyed Obeyed e = refl
 is-obeyed Silent e = absurd (true≢false (sym e))
 is-obeyed (Refused f) e = absurd (true≢false (sym e))
 
-write-says : (v : Verdict) (j : Judged) (h : Head) (word : ℕ) → v ≡ Obeyed → j .command ≡ Write → eqb (j .telegram .parameter) 0xD2 ≡ false
-    → replyBy v j h word ≡ said (j .telegram) (j .telegram .parameter) word (answerOf (j .telegram .parameter) h (j .telegram .value))
-unfolding valueReply
-write-says Obeyed j h word e c p = rw (c, p)
-write-says Silent j h word e c p = let z : _≡_ {A = ℕ} 0 1 = cc in absurd (omega arith)
-write-says (Refused f) j h word e c p = let z : _≡_ {A = ℕ} 0 1 = cc in absurd (omega arith)
-
-said-shows : (t : Telegram) (parameter word value : ℕ) → let s = said t parameter word value in
-    (s .replied ≡ true) × (fieldsOf (s .reply) .parameter ≡ parameter) × (value < 4294967296 → fieldsOf (s .reply) .value ≡ value)
-unfolding said fieldsOf bytesOf
-said-shows t parameter word value = (refl, refl, λ small. word-bytes value small)
+-- what an FFh write leaves, and makes set point 2
+aims-told : (j : Judged) (h : Head) (t v w : ℕ) → j .deed ≡ Aim2 v w
+    → let k = toldOf j h t in (k .stored .values ≡ h .stored .values) × (k .measurement ≡ h .measurement) × (k .targets .second ≡ v)
+unfolding toldOf storedBy measurementBy targetsBy restartsOf settledOf secondAimed
+aims-told j h t v w e = rw e (refl, refl, refl)
 
 answer-own : (a : ℕ) (h : Head) (value : ℕ) → a ≢ 0xFF → answerOf a h value ≡ value
 unfolding answerOf
 answer-own a h value n = rw (ne-eqb a 0xFF n)
 
-written : (h : Head) (b t : ℕ) (space : List ℕ) → Taken h space → gatheredOf (h .ear) b t .whole ≡ true
-    → let ten = gatheredOf (h .ear) b t .ten in
-    let x = fieldsOf (take 10 (product .onHead .space h b t space)) in
-    accepted (h .stored .number) (locked h) ten ≡ true → fieldsOf ten .command ≡ 1 → fieldsOf ten .parameter ≢ 0xD2
-    → (product .onHead .byte h b t (length space) .heard ≡ heard.Replies 1)
-    × (x .parameter ≡ fieldsOf ten .parameter)
-    × (fieldsOf ten .parameter ≢ 0xFF → fieldsOf ten .value < 4294967296 → x .value ≡ fieldsOf ten .value)
-unfolding judgedOf replyOf standingOf lockedOf commandOf
-written h b t space k e ok c p =
-    let ten = gatheredOf (h .ear) b t .ten in
-    let j = judging h b t in
-    let v = is-obeyed (j .verdict) (and-eq-true-iff (isObeyed (j .verdict)) _ .0 (accepted-is ten (standingOf h) ∙ ok) .0) in
-    let is : replyOf j h (statusOf h) ≡ said (j .telegram) (fieldsOf ten .parameter) (statusOf h) (answerOf (fieldsOf ten .parameter) h (fieldsOf ten .value)) =
-    write-says (j .verdict) j h (statusOf h) v (rw c) (ne-eqb _ 0xD2 p) in
-    let s = said-shows (j .telegram) (fieldsOf ten .parameter) (statusOf h) (answerOf (fieldsOf ten .parameter) h (fieldsOf ten .value)) in
-    let a = answers h b t space k e (ap (λ (x : Said). x .replied) is ∙ s .0) in
-    let r : take 10 (product .onHead .space h b t space) ≡ said (j .telegram) (fieldsOf ten .parameter) (statusOf h) (answerOf (fieldsOf ten .parameter) h (fieldsOf ten .value)) .reply =
-    rw (a .1) (take-at (replyOf j h (statusOf h) .reply) (drop 10 space) 10 (reply-ten j h (statusOf h)) ∙ ap (λ (x : Said). x .reply) is) in
-    (a .0, rw r (s .1), λ n small. rw r (s .2 (rw (answer-own (fieldsOf ten .parameter) h (fieldsOf ten .value) n) small) ∙ answer-own (fieldsOf ten .parameter) h (fieldsOf ten .value) n))
+-- the answer to an FFh write
+answer-aims : (h k : Head) (v : ℕ) → k .stored .values ≡ h .stored .values → k .measurement ≡ h .measurement → k .targets .second ≡ v
+    → answerOf 0xFF h v ≡ aimAnswer (setting h responsePlace) k
+unfolding answerOf
+answer-aims h k v p q r = rw (p, q, r)
+
+aims-fits : (how : ℕ) (k : Head) → k .targets .second < 4294967296 → aimAnswer how k < 4294967296
+aims-fits how k small = either (λ w. w < 4294967296) (eqb how 1) (word-fits _) (either (λ w. w < 4294967296) (eqb how 2) (word-fits _) small)
+
+-- what is obeyed is sound and enters nothing: the lists and the pending error are as they were when it is done
+obeyed-errors : (ten : List ℕ) (h : Head) → let j = judgedOf ten (standingOf h) in j .verdict ≡ Obeyed
+    → let f = complainedOf (j .verdict) (countedOf (j .hit) (h .faults)) in
+    (f .pending ≡ h .faults .pending) × (f .memory ≡ h .faults .memory) × (f .inputs ≡ h .faults .inputs)
+unfolding judgedOf complainedOf
+obeyed-errors ten h o =
+    let c = counted-sound (hitOf ten) (h .faults) (obeyed-sound (hitOf ten) (fieldsOf ten) (standingOf h) o) in
+    rw o (c .1, c .0, counted-inputs (hitOf ten) (h .faults))
+
+-- and does what its address says
+obeyed-acts : (ten : List ℕ) (h : Head) (t p v w : ℕ) → let j = judgedOf ten (standingOf h) in
+    j .verdict ≡ Obeyed → j .deed ≡ doneBy (kindOf p) v w → (eqb p 0xA0 && eqb v 9) ≡ false → Acted h (toldOf j h t) (actOf p v) v w
+unfolding toldOf
+obeyed-acts ten h t p v w o is n =
+    let j = judgedOf ten (standingOf h) in
+    let f = complainedOf (j .verdict) (countedOf (j .hit) (h .faults)) in
+    let r = obeyed-errors ten h o in
+    let g = startedOf (j .hit) t (h .monitor) in
+    let quiet : restartsOf (j .deed) ≡ false = ap restartsOf is ∙ done-restarts p v w ∙ n in
+    rw quiet
+    (subst (λ (d : Deed). Acted h (after h f (r .0) (r .1) (r .2) g (emptyEar t) d) (actOf p v) v w) (sym is)
+    (done-acts h f (r .0) (r .1) (r .2) g (emptyEar t) p v w n))
+
+module _ (h : Head) (b t : ℕ) (space : List ℕ) (k : Taken h space) (e : gatheredOf (h .ear) b t .whole ≡ true) where
+  abbrev ten : List ℕ
+  ten = gatheredOf (h .ear) b t .ten
+
+  abbrev x : Telegram
+  x = fieldsOf (take 10 (product .onHead .space h b t space))
+
+  module _ (ok : accepted (h .stored .number) (locked h) ten ≡ true) where
+    obeyed : judging h b t .verdict ≡ Obeyed
+    unfolding standingOf lockedOf
+    obeyed = is-obeyed (judging h b t .verdict) (and-eq-true-iff (isObeyed (judging h b t .verdict)) _ .0 (accepted-is ten (standingOf h) ∙ ok) .0)
+
+    told-write : fieldsOf ten .command ≡ 1 → fieldsOf ten .parameter ≢ 0xD2
+        → let v = answerOf (fieldsOf ten .parameter) h (fieldsOf ten .value) in
+        (product .onHead .byte h b t (length space) .heard ≡ heard.Replies 1) × (x .parameter ≡ fieldsOf ten .parameter) × (v < 4294967296 → x .value ≡ v)
+    unfolding judgedOf commandOf
+    told-write c p = said-told h b t space k e _ obeyed (write-says (judging h b t) h _ (rw c) (ne-eqb _ 0xD2 p))
+
+    written : fieldsOf ten .command ≡ 1 → fieldsOf ten .parameter ≢ 0xD2
+        → (product .onHead .byte h b t (length space) .heard ≡ heard.Replies 1)
+        × (x .parameter ≡ fieldsOf ten .parameter)
+        × (fieldsOf ten .parameter ≢ 0xFF → fieldsOf ten .value < 4294967296 → x .value ≡ fieldsOf ten .value)
+    written c p =
+        let a = told-write c p in (
+          a .0,
+          a .1,
+          λ n small.
+              let own = answer-own (fieldsOf ten .parameter) h (fieldsOf ten .value) n in a .2 (rw own small) ∙ own,
+        )
+
+    -- ---- what an accepted telegram does
+    done-is : judging h b t .deed ≡ doneBy (kindOf (fieldsOf ten .parameter)) (fieldsOf ten .value) (fieldsOf ten .word)
+    unfolding standingOf lockedOf
+    done-is = deed-is ten (standingOf h) ∙ rw ok
+
+    acts : (eqb (fieldsOf ten .parameter) 0xA0 && eqb (fieldsOf ten .value) 9) ≡ false
+        → Acted h (product .onHead .byte h b t (length space) .head) (actOf (fieldsOf ten .parameter) (fieldsOf ten .value)) (fieldsOf ten .value) (fieldsOf ten .word)
+    acts n = rw (obeys h b t space k e) (obeyed-acts ten h t _ _ _ obeyed done-is n)
+
+    aimed : fieldsOf ten .command ≡ 1 → fieldsOf ten .parameter ≡ 0xFF → fieldsOf ten .value < 4294967296
+        → x .value ≡ aimAnswer (setting h responsePlace) (product .onHead .byte h b t (length space) .head)
+    unfolding doneBy
+    aimed c p small =
+        let after = told h b t in
+        let d = aims-told (judging h b t) h t (fieldsOf ten .value) (fieldsOf ten .word) (done-is ∙ rw (p, second-kind)) in
+        let is : answerOf (fieldsOf ten .parameter) h (fieldsOf ten .value) ≡ aimAnswer (setting h responsePlace) after =
+        rw p (answer-aims h after (fieldsOf ten .value) (d .0) (d .1) (d .2)) in
+        rw (obeys h b t space k e) (told-write c (λ q. omega (arith, sym p ∙ q)) .2 (rw is (aims-fits (setting h responsePlace) after (rw (d .2) small))) ∙ is)
+
+  -- ---- a read of what may be read is answered
+  read : hitOf ten ≡ 0 → fieldsOf ten .command ≡ 0 → fieldsOf ten .node ≡ h .stored .number → readable (accessOf (fieldsOf ten .parameter)) ≡ true
+      → (fieldsOf ten .parameter ≡ 0x96 → byte0 (fieldsOf ten .value) ≤ h .faults .inputs .count)
+      → (product .onHead .byte h b t (length space) .heard ≡ heard.Replies 1) × (x .parameter ≡ fieldsOf ten .parameter)
+  unfolding judgedOf standingOf commandOf
+  read s c n a few =
+      let v : judging h b t .verdict ≡ Obeyed =
+      rw s (read-obeyed (fieldsOf ten) (standingOf h) (rw c) (eq-eqb _ _ n) (accessOf (fieldsOf ten .parameter)) refl a (go (eqb (fieldsOf ten .parameter) 0x96) refl)) in
+      let r = said-told h b t space k e _ v (read-says (judging h b t) h _ (rw c)) in
+      (r .0, r .1)
+    where
+      go : (y : Bool) → eqb (fieldsOf ten .parameter) 0x96 ≡ y → (y && ltb (h .faults .inputs .count) (byte0 (fieldsOf ten .value))) ≡ false
+      go true p = le-ltb (h .faults .inputs .count) (byte0 (fieldsOf ten .value)) (few (eqb-true _ 0x96 p))
+      go false p = refl
+
+  -- ---- a broadcast is not answered
+  casts : fieldsOf ten .command ≡ 2 → (product .onHead .byte h b t (length space) .heard ≡ heard.Replies 0) × (product .onHead .space h b t space ≡ space)
+  unfolding judgedOf commandOf
+  casts c =
+      keeps-silent h b t space k e
+      (cast-none (judging h b t) h (told h b t) (rw c) (λ f v. cast-never-refused (hitOf ten) (fieldsOf ten) (standingOf h) f (rw c) v))
 
 -- ---- a telegram that is passed over
 pub passed-keeps : (h : Head) (t : ℕ) → Passed h (passedOf h t) t (h .stored .offer)
@@ -213,7 +254,7 @@ uncast h b t space k e s c unmet = go (judging h b t .verdict) refl
         × Passed h (product .onHead .byte h b t (length space) .head) t (h .stored .offer)
     go Obeyed v = absurd (true≢false (rw (v, c) at (accepted-is ten (standingOf h) ∙ unmet)))
     go Silent v =
-        let q = keeps-silent h b t space k e (silent-none _ h (statusOf h) v) in
+        let q = keeps-silent h b t space k e (silent-none _ h (told h b t) v) in
         (q .0, q .1, rw (obeys h b t space k e ∙ silent-is h ten t s v) (passed-keeps h t))
     go (Refused f) v = absurd (cast-never-refused (hitOf ten) (fieldsOf ten) (standingOf h) f (rw c) v)
 
@@ -222,7 +263,7 @@ every =
     record {
       copies = copies;
       polls = λ h b t space k e c.
-          rw (obeys h b t space k e) (still-polls _ h t (read-still (gatheredOf (h .ear) b t .ten) h c));
+          rw (obeys h b t space k e) (read-polls (gatheredOf (h .ear) b t .ten) h t c);
       sets = λ h b t space k e c r lt p.
           rw (obeys h b t space k e) (setting-keeps _ h t (write-sets (gatheredOf (h .ear) b t .ten) h r lt c p));
       starts = λ h b t space k e s n. rw (obeys h b t space k e) (told-starts (gatheredOf (h .ear) b t .ten) h t s n);
@@ -233,6 +274,10 @@ every =
       errs = errs;
       passes = passes;
       uncast = uncast;
+      casts = casts;
+      read = read;
       written = written;
+      aimed = aimed;
+      acts = acts;
       in-force = λ h b t space k e n. rw (obeys h b t space k e) (told-stays _ h t n);
     }

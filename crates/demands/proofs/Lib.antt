@@ -12,7 +12,9 @@ pub mod Sim
 pub mod Alone
 pub mod Lines
 pub mod Answers
+pub mod Acts
 pub mod Telling
+pub mod Words
 pub mod Every
 pub mod Bits
 pub mod Demand2
@@ -33,5 +35,6 @@ pub mod Echo
 pub mod Wrongs
 pub mod WrongHits
 pub mod WrongOffers
+pub mod WrongWords
 pub mod Real
 pub mod Outcomes

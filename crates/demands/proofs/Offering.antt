@@ -52,11 +52,15 @@ module _ (h : Head) (n : ℕ) where
       elim (restartsOf (j .deed)) as (λ b. AlikeOffered (cond b (restartedOf (affectedOf j other t)) (affectedOf j other t)) (cond b (restartedOf (affectedOf j h t)) (affectedOf j h t)))
       [ true ↦ ap restartedOf (affected-offered j t) | false ↦ affected-offered j t ]
 
+  told-word : (j : Judged) (t : ℕ) → statusOf (toldOf j other t) ≡ statusOf (toldOf j h t)
+  unfolding statusOf
+  told-word j t = ap statusOf (told-offered j t)
+
   tells : (ten : List ℕ) (t : ℕ) → Steps AlikeOffered (tellOf other ten t) (tellOf h ten t)
-  unfolding tellOf standingOf statusOf lockedOf
+  unfolding tellOf standingOf lockedOf
   tells ten t =
       let j = judgedOf ten (standingOf h) in
-      let r = reply-apart h (h .ear) (h .faults .hit) n j (statusOf h) in
+      let r = reply-apart h (h .ear) (h .faults .hit) n j (toldOf j other t) (toldOf j h t) (told-word j t) in
       (ap (λ (s : Said). s .replied) r, ap (λ (s : Said). s .reply) r, told-offered j t)
 
   steps : (b t : ℕ) → Steps AlikeOffered (stepOf other b t) (stepOf h b t)

@@ -25,7 +25,6 @@ use Rattle.judge.specs.Judged.{judgedOf}
 use Rattle.judge.proofs.Laws.{refused-mine, casts-is, obeyed-mine, obeyed-sound}
 use Rattle.state.specs.declared.parts.Head.{Head}
 use Rattle.state.specs.declared.parts.Stored.{Stored}
-use Rattle.state.specs.Status.{statusOf}
 use Rattle.effects.specs.Stored.{storedBy}
 use Rattle.head.specs.declared.calls.Heard.{Heard}
 use Rattle.head.specs.declared.calls.Heard.the-variants as heard
@@ -195,8 +194,8 @@ module _ (h : Head) (ten : List ℕ) (t : ℕ) (other : eqb (fieldsOf ten .node)
   told-mute : tellOf h ten t .replied ≡ false
   unfolding tellOf judgedOf
   told-mute =
-      ⊎-elim (λ e. silent-none (judgedOf ten (standingOf h)) h (statusOf h) e)
-      (λ e. cast-none (judgedOf ten (standingOf h)) h (statusOf h) (e .1) (λ f q. never (sym (e .0) ∙ q)))
+      ⊎-elim (λ e. silent-none (judgedOf ten (standingOf h)) h _ e)
+      (λ e. cast-none (judgedOf ten (standingOf h)) h _ (e .1) (λ f q. never (sym (e .0) ∙ q)))
       passed
     where
       never : {f : Fault} → Obeyed ≡ Refused f → ⊥

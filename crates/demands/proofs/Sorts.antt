@@ -10,7 +10,7 @@ use lib.Dec.{eqb}
 use Rattle.rows.specs.declared.table.Place.{Place}
 use Rattle.rows.specs.declared.table.Place.the-variants.{At, Nowhere}
 use Rattle.rows.specs.declared.access.Access.the-variants.{ReadOnly}
-use Rattle.rows.specs.declared.kind.Kind.the-variants.{Stored, WriteOnly}
+use Rattle.rows.specs.declared.kind.Kind.the-variants.{Stored, SetPoint1, SetPoint2, WriteOnly}
 use Rattle.rows.specs.declared.kind.Order.{Order}
 use Rattle.rows.specs.declared.kind.Order.the-variants.{System, Calibration, Interlock, Freezing, Assignment}
 use Rattle.rows.specs.Table.{rows, rowOf, address, placeOf}
@@ -49,6 +49,22 @@ pub value-kind : (a i : ℕ) → placeOf a ≡ At i → kindOf a ≡ Stored i
 unfolding kindOf
 value-kind a i e = rw e
 
+pub first-kind : kindOf 0xFB ≡ SetPoint1
+unfolding kindOf placeOf rows otherOf
+first-kind = refl
+
+pub second-kind : kindOf 0xFF ≡ SetPoint2
+unfolding kindOf placeOf rows otherOf
+second-kind = refl
+
+pub calibration-kind : kindOf 0xA7 ≡ WriteOnly Calibration
+unfolding kindOf placeOf rows otherOf
+calibration-kind = refl
+
+pub freezing-kind : kindOf 0xAA ≡ WriteOnly Freezing
+unfolding kindOf placeOf rows otherOf
+freezing-kind = refl
+
 pub system-kind : kindOf 0xA0 ≡ WriteOnly System
 unfolding kindOf placeOf rows otherOf
 system-kind = refl
@@ -63,26 +79,42 @@ assignment-kind = refl
 
 -- what holds of each deed of any other address holds of its deed
 pub other-deed : (P : Deed → Type 0) (v w a : ℕ) → placeOf a ≡ Nowhere → eqb a 0xA0 ≡ false → eqb a 0xA8 ≡ false → eqb a 0xD2 ≡ false
-    → P Nothing → P Calibrate → P Freeze → P (Aim1 v w) → P (Aim2 v w) → P (doneBy (kindOf a) v w)
+    → P Nothing → (eqb a 0xA7 ≡ true → P Calibrate) → (eqb a 0xAA ≡ true → P Freeze) → (eqb a 0xFB ≡ true → P (Aim1 v w)) → (eqb a 0xFF ≡ true → P (Aim2 v w)) → P (doneBy (kindOf a) v w)
 unfolding kindOf doneBy
 other-deed P v w a e p q r none calibrate freeze aim1 aim2 = rw e (other-has (λ k. P (doneBy k v w)) a aim1 aim2 (λ s. none) order none)
   where
     order : (o : Order) → eqb a (orderAt o) ≡ true → P (doneBy (WriteOnly o) v w)
     order System is = absurd (true≢false (sym is ∙ p))
-    order Calibration is = calibrate
+    order Calibration is = calibrate is
     order Interlock is = absurd (true≢false (sym is ∙ q))
-    order Freezing is = freeze
+    order Freezing is = freeze is
     order Assignment is = absurd (true≢false (sym is ∙ r))
 
 pub other-still : (v w : ℕ) (st : parts.Stored) (a : ℕ) → placeOf a ≡ Nowhere → eqb a 0xA0 ≡ false → eqb a 0xA8 ≡ false → eqb a 0xD2 ≡ false
     → storedAfter (doneBy (kindOf a) v w) st ≡ st
 unfolding storedAfter storedBy restartsOf
-other-still v w st a e p q r = other-deed (λ d. storedAfter d st ≡ st) v w a e p q r refl refl refl refl refl
+other-still v w st a e p q r = other-deed (λ d. storedAfter d st ≡ st) v w a e p q r refl (λ _. refl) (λ _. refl) (λ _. refl) (λ _. refl)
 
--- A0h, A8h and D2h are none of the 39
+-- the set points, A0h, A7h, A8h, AAh and D2h are none of the 39
+pub first-nowhere : placeOf 0xFB ≡ Nowhere
+unfolding placeOf rows
+first-nowhere = refl
+
+pub second-nowhere : placeOf 0xFF ≡ Nowhere
+unfolding placeOf rows
+second-nowhere = refl
+
 pub system-nowhere : placeOf 0xA0 ≡ Nowhere
 unfolding placeOf rows
 system-nowhere = refl
+
+pub calibration-nowhere : placeOf 0xA7 ≡ Nowhere
+unfolding placeOf rows
+calibration-nowhere = refl
+
+pub freezing-nowhere : placeOf 0xAA ≡ Nowhere
+unfolding placeOf rows
+freezing-nowhere = refl
 
 pub interlock-nowhere : placeOf 0xA8 ≡ Nowhere
 unfolding placeOf rows
@@ -107,14 +139,17 @@ value-same a i r e lt = go (eqb r i) refl
     go false q =
         ne-eqb a _ (λ s. let f : At r ≡ At i = sym (row-place r lt) ∙ rw s at e in let same : r ≡ i = cc in eqb-false r i q same)
 
+pub value-apart : (a i n : ℕ) → placeOf a ≡ At i → placeOf n ≡ Nowhere → eqb a n ≡ false
+value-apart a i n e nowhere = ne-eqb a n (λ q. not-at nowhere (rw q at e))
+
 pub value-system : (a i : ℕ) → placeOf a ≡ At i → eqb a 0xA0 ≡ false
-value-system a i e = ne-eqb a 0xA0 (λ q. not-at system-nowhere (rw q at e))
+value-system a i e = value-apart a i 0xA0 e system-nowhere
 
 pub value-interlock : (a i : ℕ) → placeOf a ≡ At i → eqb a 0xA8 ≡ false
-value-interlock a i e = ne-eqb a 0xA8 (λ q. not-at interlock-nowhere (rw q at e))
+value-interlock a i e = value-apart a i 0xA8 e interlock-nowhere
 
 pub value-assignment : (a i : ℕ) → placeOf a ≡ At i → eqb a 0xD2 ≡ false
-value-assignment a i e = ne-eqb a 0xD2 (λ q. not-at assignment-nowhere (rw q at e))
+value-assignment a i e = value-apart a i 0xD2 e assignment-nowhere
 
 -- ---- the one address whose reads have a check of their own is read only
 pub number-access : (a : ℕ) → eqb a 0x96 ≡ true → accessOf a ≡ ReadOnly

@@ -307,7 +307,7 @@ told-becomes ten s st f shut full p q = rw (stored-is ten s st, accepted-at ten 
     go false false = nothing-becomes st
 
 -- an accepted telegram restarts the head where it is A0h 9, and no other does
-done-restarts : (a v w : ℕ) → restartsOf (doneBy (kindOf a) v w) ≡ obeying a v .restarts
+pub done-restarts : (a v w : ℕ) → restartsOf (doneBy (kindOf a) v w) ≡ obeying a v .restarts
 unfolding restartsOf doneBy
 done-restarts a v w = go (sortOf a)
   where
@@ -316,7 +316,7 @@ done-restarts a v w = go (sortOf a)
     go (system e) = rw (e, system-kind) (system-way (λ d. restartsOf d ≡ eqb v 9) v (λ n. rw n) (λ n. rw n) (λ n. rw n) (λ n. sym n))
     go (interlock e) = rw (e, interlock-kind)
     go (assignment e) = rw (e, assignment-kind)
-    go (other e p q r) = rw p (other-deed (λ d. restartsOf d ≡ false) v w a e p q r refl refl refl refl refl)
+    go (other e p q r) = rw p (other-deed (λ d. restartsOf d ≡ false) v w a e p q r refl (λ _. refl) (λ _. refl) (λ _. refl) (λ _. refl))
 
 pub told-restarts : (ten : List ℕ) (s : Standing) (f : ℕ) (shut : Bool) → s .number ≡ f → s .locked ≡ shut
     → restartsOf (judgedOf ten s .deed) ≡ changing f shut ten .restarts

@@ -7,7 +7,7 @@ use mathlib.Core.Path.{_≡_, refl, sym, _∙_, ap}
 use mathlib.Core.Bool.{Bool, true, false, cond, not, _&&_, and-false, true≢false}
 use mathlib.Core.Logic.{_≢_, _⊎_, inl, inr}
 use mathlib.Core.List.{List}
-use borrow.Author.Tests.{ne-eqb}
+use borrow.Author.Tests.{eqb-true, ne-eqb}
 use lib.Dec.{eqb, ltb}
 use lib.ListN.{length, take, drop}
 use lib.Seq.{take-at}
@@ -17,7 +17,11 @@ use Rattle.wire.specs.declared.fault.Fault.the-variants.{CheckSum, Timeout, Unl
 use Rattle.wire.specs.Check.{hitOf}
 use Rattle.wire.specs.Faults.{codeOf}
 use Rattle.wire.specs.Telegram.{fieldsOf, bytesOf}
-use Rattle.wire.proofs.Laws.{half-bytes}
+use Rattle.wire.specs.Word.{byte0}
+use Rattle.wire.proofs.Laws.{half-bytes, word-bytes}
+use Rattle.rows.specs.declared.access.Access.{Access}
+use Rattle.rows.specs.declared.access.Access.the-variants.{ReadWrite, ReadOnly, WriteOnly, Unknown}
+use Rattle.rows.specs.Access.{accessOf}
 use Rattle.rows.specs.declared.kind.Kind.the-variants.{Stored}
 use Rattle.rows.specs.Kinds.{kindOf}
 use Rattle.rows.specs.Table.{rowOf, address}
@@ -27,10 +31,11 @@ use Rattle.judge.specs.declared.command.Command.the-variants.{Read, Write, Broa
 use Rattle.judge.specs.declared.deed.Deed.{Deed}
 use Rattle.judge.specs.declared.deed.Deed.the-variants.{Nothing, Store, Reset, Restart, Calibrate, Forget, Unlock, Freeze, Aim1, Aim2, ClearStatic, Release, Offer, Withdraw}
 use Rattle.judge.specs.declared.judged.Judged.{Judged}
+use Rattle.judge.specs.declared.verdict.Standing.{Standing}
 use Rattle.judge.specs.declared.verdict.Verdict.{Verdict}
 use Rattle.judge.specs.declared.verdict.Verdict.the-variants.{Obeyed, Silent, Refused}
 use Rattle.judge.specs.Commands.{commandOf}
-use Rattle.judge.specs.Checks.{_else_, sumCheck, nodeCheck}
+use Rattle.judge.specs.Checks.{_else_, sumCheck, nodeCheck, commandCheck, parameterCheck, accessCheck, lockCheck, stateCheck, valueCheck, numberCheck, hushOf}
 use Rattle.judge.specs.Deeds.{shownBy, doneBy, refusedBy, deedOf}
 use Rattle.judge.specs.Verdicts.{lateOf, mineOf, verdictOf}
 use Rattle.judge.specs.Judged.{judgedOf}
@@ -41,22 +46,21 @@ use Rattle.state.specs.declared.parts.Stored as parts
 use Rattle.state.specs.declared.parts.Faults.{Faults}
 use Rattle.state.specs.Bits.{bitSet}
 use Rattle.state.specs.Errors.{rememberedOf}
-use Rattle.state.specs.Status.{statusOf}
-use Rattle.state.proofs.Laws.{status-fits}
 use Rattle.effects.specs.Stored.{storedBy}
 use Rattle.effects.specs.Faults.{withInputs, withPending, withDamaged, withHit, raisedOf, countedOf, complainedOf, acknowledgedOf, restartedFaults, faultsBy}
 use Rattle.effects.specs.Measured.{measurementBy, releasedOf}
 use Rattle.effects.specs.Aimed.{targetsBy, clearedOf}
 use Rattle.effects.specs.Restart.{restartedOf}
 use Rattle.reply.specs.declared.Said.{Said}
-use Rattle.reply.specs.Reply.{silence, said, errorReply, valueReply, replyBy, replyOf}
-use Rattle.reply.proofs.Replies.{reply-ten, refused-error}
+use Rattle.reply.specs.Word.{carriedOf}
+use Rattle.reply.specs.Reply.{readOf, answerOf, silence, said, errorReply, valueReply, replyBy, replyOf}
+use Rattle.reply.proofs.Replies.{reply-ten, silent-none, refused-error}
 use Rattle.head.specs.declared.calls.Heard.the-variants as heard
 use Rattle.head.specs.Hear.{gatheredOf, standingOf, restartsOf, startedOf, affectedOf, toldOf}
 use Rattle.head.proofs.Refused.{Unheeded, silent, refused, unheeded-only}
 use Rattle.demands.specs.Run.{product}
 use Rattle.demands.specs.Alone.{Taken}
-use Rattle.demands.specs.Every.{Copies, Polled, Damaged, mine}
+use Rattle.demands.specs.Every.{Copies, Polled, Damaged, mine, readable}
 use Rattle.demands.proofs.Sorts.{value-kind, value-assignment}
 use Rattle.demands.proofs.Answers.{obeys, answers, keeps-silent}
 
@@ -85,42 +89,150 @@ value-copies Write j h word small e =
 value-copies Broadcast j h word small e = rw e (silence-copies (j .telegram) word)
 value-copies Other j h word small e = rw e (silence-copies (j .telegram) word)
 
-reply-copies : (v : Verdict) (j : Judged) (h : Head) (word : ℕ) → word < 65536 → Loud (j .telegram) word (replyBy v j h word)
+pub reply-copies : (v : Verdict) (j : Judged) (h : Head) (word : ℕ) → word < 65536 → Loud (j .telegram) word (replyBy v j h word)
 unfolding errorReply
 reply-copies Obeyed j h word small = value-copies (j .command) j h word small refl
 reply-copies Silent j h word small = silence-copies (j .telegram) word
 reply-copies (Refused fault) j h word small = said-copies (j .telegram) _ word _ small
 
+-- ---- what is obeyed is answered with the telegram's own parameter
+abbrev Own : Telegram → Said → Type 0
+Own t s = s .replied ≡ true → fieldsOf (s .reply) .parameter ≡ t .parameter
+
+said-own : (t : Telegram) (word value : ℕ) → Own t (said t (t .parameter) word value)
+unfolding said fieldsOf bytesOf
+said-own t word value e = refl
+
+silence-own : (t : Telegram) → Own t silence
+unfolding silence
+silence-own t e = absurd (true≢false (sym e))
+
+value-own : (c : Command) (j : Judged) (h : Head) (word : ℕ) → j .command ≡ c → Own (j .telegram) (valueReply j h word)
+unfolding valueReply
+value-own Read j h word e = rw e (said-own (j .telegram) word _)
+value-own Write j h word e =
+    rw e (either (Own (j .telegram)) (not (eqb (j .telegram .parameter) 0xD2)) (said-own (j .telegram) word _) (silence-own (j .telegram)))
+value-own Broadcast j h word e = rw e (silence-own (j .telegram))
+value-own Other j h word e = rw e (silence-own (j .telegram))
+
+obeyed-says : (v : Verdict) (j : Judged) (h : Head) (word : ℕ) → v ≡ Obeyed → replyBy v j h word ≡ valueReply j h word
+obeyed-says v j h word e = rw e
+
+-- a read with its data, a write but of D2h with its answer
+module _ (j : Judged) (h : Head) (word : ℕ) where
+  pub read-says : j .command ≡ Read
+      → valueReply j h word ≡ said (j .telegram) (j .telegram .parameter) word (readOf (j .kind) h (j .telegram .value))
+  unfolding valueReply
+  read-says c = rw c
+
+  pub write-says : j .command ≡ Write → eqb (j .telegram .parameter) 0xD2 ≡ false
+      → valueReply j h word ≡ said (j .telegram) (j .telegram .parameter) word (answerOf (j .telegram .parameter) h (j .telegram .value))
+  unfolding valueReply
+  write-says c p = rw (c, p)
+
+-- what is said is a reply, with this parameter and this value
+said-shows : (t : Telegram) (parameter word value : ℕ) → let s = said t parameter word value in
+    (s .replied ≡ true) × (fieldsOf (s .reply) .parameter ≡ parameter) × (value < 4294967296 → fieldsOf (s .reply) .value ≡ value)
+unfolding said fieldsOf bytesOf
+said-shows t parameter word value = (refl, refl, λ small. word-bytes value small)
+
+-- ---- a telegram that a byte ends: what it is judged, and the head after it
 abbrev pub judging : Head → ℕ → ℕ → Judged
 judging h b t = judgedOf (gatheredOf (h .ear) b t .ten) (standingOf h)
 
-pub copies : (h : Head) (b t : ℕ) (space : List ℕ) → Taken h space → gatheredOf (h .ear) b t .whole ≡ true
+abbrev pub told : Head → ℕ → ℕ → Head
+told h b t = toldOf (judging h b t) h t
+
+-- where one reply is counted there is one, and it stands in the space
+pub answered : (h : Head) (b t : ℕ) (space : List ℕ) → Taken h space → gatheredOf (h .ear) b t .whole ≡ true
     → product .onHead .byte h b t (length space) .heard ≡ heard.Replies 1
-    → Copies (fieldsOf (gatheredOf (h .ear) b t .ten)) (fieldsOf (take 10 (product .onHead .space h b t space))) (statusOf h)
-unfolding judgedOf replyOf
-copies h b t space k e one = go (replyOf (judging h b t) h (statusOf h) .replied) refl
+    → (replyOf (judging h b t) h (told h b t) .replied ≡ true)
+    × (take 10 (product .onHead .space h b t space) ≡ replyOf (judging h b t) h (told h b t) .reply)
+answered h b t space k e one = go (replyOf (judging h b t) h (told h b t) .replied) refl
   where
-    go : (r : Bool) → replyOf (judging h b t) h (statusOf h) .replied ≡ r
-        → Copies (fieldsOf (gatheredOf (h .ear) b t .ten)) (fieldsOf (take 10 (product .onHead .space h b t space))) (statusOf h)
+    go : (r : Bool) → replyOf (judging h b t) h (told h b t) .replied ≡ r
+        → (replyOf (judging h b t) h (told h b t) .replied ≡ true)
+        × (take 10 (product .onHead .space h b t space) ≡ replyOf (judging h b t) h (told h b t) .reply)
     go true r =
-        rw (answers h b t space k e r .1, take-at (replyOf (judging h b t) h (statusOf h) .reply) (drop 10 space) 10 (reply-ten (judging h b t) h (statusOf h)))
-        (reply-copies (judging h b t .verdict) (judging h b t) h (statusOf h) (status-fits h) r)
+        (r, rw (answers h b t space k e r .1) (take-at (replyOf (judging h b t) h (told h b t) .reply) (drop 10 space) 10 (reply-ten (judging h b t) h (told h b t))))
     go false r = let none = keeps-silent h b t space k e r .0 in let z : _≡_ {A = ℕ} 0 1 = cc in absurd (omega arith)
 
--- ---- what a read does: nothing, or it clears the static bit, or releases
-abbrev Still : Deed → Type 0
-Still d = (d ≡ Nothing) ⊎ ((d ≡ ClearStatic) ⊎ (d ≡ Release))
+-- an obeyed telegram that is answered with this value draws that reply
+pub said-told : (h : Head) (b t : ℕ) (space : List ℕ) → Taken h space → gatheredOf (h .ear) b t .whole ≡ true → (v : ℕ)
+    → let j = judging h b t in
+    let word = carriedOf (j .deed) h (told h b t) in
+    let x = fieldsOf (take 10 (product .onHead .space h b t space)) in
+    j .verdict ≡ Obeyed → valueReply j h word ≡ said (j .telegram) (j .telegram .parameter) word v
+    → (product .onHead .byte h b t (length space) .heard ≡ heard.Replies 1) × (x .parameter ≡ j .telegram .parameter) × (v < 4294967296 → x .value ≡ v)
+unfolding replyOf
+said-told h b t space k e v obeyed says =
+    let j = judging h b t in
+    let word = carriedOf (j .deed) h (told h b t) in
+    let is = obeyed-says (j .verdict) j h word obeyed ∙ says in
+    let s = said-shows (j .telegram) (j .telegram .parameter) word v in
+    let a = answers h b t space k e (ap (λ (x : Said). x .replied) is ∙ s .0) in
+    let r = answered h b t space k e (a .0) .1 ∙ ap (λ (x : Said). x .reply) is in
+    (a .0, rw r (s .1), λ small. rw r (s .2 small))
 
-shown-still : (a : ℕ) → Still (shownBy a)
+-- the telegram was obeyed then, and the reply has its parameter; or it was refused
+pub heeded : (h : Head) (b t : ℕ) (space : List ℕ) → Taken h space → gatheredOf (h .ear) b t .whole ≡ true
+    → product .onHead .byte h b t (length space) .heard ≡ heard.Replies 1
+    → (P : Type 0)
+    → (judging h b t .verdict ≡ Obeyed
+    → fieldsOf (take 10 (product .onHead .space h b t space)) .parameter ≡ fieldsOf (gatheredOf (h .ear) b t .ten) .parameter
+    → valueReply (judging h b t) h (carriedOf (judging h b t .deed) h (told h b t)) .replied ≡ true → P)
+    → ((f : Fault) → judging h b t .verdict ≡ Refused f → P) → P
+unfolding judgedOf replyOf
+heeded h b t space k e one P obeyed erred = go (judging h b t .verdict) refl
+  where
+    j : Judged
+    j = judging h b t
+
+    word : ℕ
+    word = carriedOf (j .deed) h (told h b t)
+
+    sent : (replyOf j h (told h b t) .replied ≡ true) × (take 10 (product .onHead .space h b t space) ≡ replyOf j h (told h b t) .reply)
+    sent = answered h b t space k e one
+
+    loud : j .verdict ≡ Obeyed → valueReply j h word .replied ≡ true
+    loud v = sym (ap (λ (s : Said). s .replied) (obeyed-says (j .verdict) j h word v)) ∙ sent .0
+
+    own : j .verdict ≡ Obeyed → fieldsOf (take 10 (product .onHead .space h b t space)) .parameter ≡ fieldsOf (gatheredOf (h .ear) b t .ten) .parameter
+    own v = rw (sent .1, obeyed-says (j .verdict) j h word v) (value-own (j .command) j h word refl (loud v))
+
+    go : (v : Verdict) → j .verdict ≡ v → P
+    go Obeyed v = obeyed v (own v) (loud v)
+    go Silent v = absurd (true≢false (sym (sent .0) ∙ silent-none j h _ v))
+    go (Refused f) v = erred f v
+
+-- ---- a sound read of what may be read is obeyed; of 96h where its number is not above the count
+pub read-obeyed : (t : Telegram) (s : Standing) → commandOf (t .command) ≡ Read → mineOf t s ≡ true → (a : Access) → accessOf (t .parameter) ≡ a
+    → readable a ≡ true → (eqb (t .parameter) 0x96 && ltb (s .inputs) (byte0 (t .value))) ≡ false → verdictOf 0 t s ≡ Obeyed
+unfolding verdictOf sumCheck nodeCheck lateOf hushOf commandCheck parameterCheck accessCheck lockCheck stateCheck valueCheck numberCheck _else_
+read-obeyed t s c m ReadWrite a r n = rw (c, m, a, n, and-false)
+read-obeyed t s c m ReadOnly a r n = rw (c, m, a, n, and-false)
+read-obeyed t s c m WriteOnly a r n = absurd (true≢false (sym r))
+read-obeyed t s c m Unknown a r n = absurd (true≢false (sym r))
+
+-- ---- what a read does: nothing, or it clears the static bit, or releases
+abbrev Still : ℕ → Deed → Type 0
+Still a d = (d ≡ Nothing) ⊎ (((d ≡ ClearStatic) × (a ≡ 0xFA)) ⊎ ((d ≡ Release) × (a ≡ 0xFE)))
+
+shown-still : (a : ℕ) → Still a (shownBy a)
 unfolding shownBy
-shown-still a = either Still (eqb a 0xFA) (inr (inl refl)) (either Still (eqb a 0xFE) (inr (inr refl)) (inl refl))
+shown-still a = go (eqb a 0xFA) refl (eqb a 0xFE) refl
+  where
+    go : (x : Bool) → eqb a 0xFA ≡ x → (y : Bool) → eqb a 0xFE ≡ y → Still a (cond x ClearStatic (cond y Release Nothing))
+    go true p y q = inr (inl (refl, eqb-true a 0xFA p))
+    go false p true q = inr (inr (refl, eqb-true a 0xFE q))
+    go false p false q = inl refl
 
 -- what is refused and drops no offer does nothing
 refused-idle : (P : Deed → Type 0) (f : Fault) (a : ℕ) → drops (Refused f) a ≡ false → P Nothing → P (refusedBy f a)
 unfolding refusedBy
 refused-idle P f a e p = rw e p
 
-pub read-still : (ten : List ℕ) (h : Head) → fieldsOf ten .command ≡ 0 → Still (judgedOf ten (standingOf h) .deed)
+read-still : (ten : List ℕ) (h : Head) → fieldsOf ten .command ≡ 0 → Still (fieldsOf ten .parameter) (judgedOf ten (standingOf h) .deed)
 unfolding judgedOf deedOf commandOf
 read-still ten h c = go (verdictOf (hitOf ten) (fieldsOf ten) (standingOf h)) refl
   where
@@ -128,19 +240,10 @@ read-still ten h c = go (verdictOf (hitOf ten) (fieldsOf ten) (standingOf h)) re
     none = drops-is (hitOf ten) (fieldsOf ten) (standingOf h) ∙ rw c (and-false (eqb (hitOf ten) 0))
 
     go : (v : Verdict) → verdictOf (hitOf ten) (fieldsOf ten) (standingOf h) ≡ v
-        → Still (deedOf v (commandOf (fieldsOf ten .command)) (kindOf (fieldsOf ten .parameter)) (fieldsOf ten))
+        → Still (fieldsOf ten .parameter) (deedOf v (commandOf (fieldsOf ten .command)) (kindOf (fieldsOf ten .parameter)) (fieldsOf ten))
     go Obeyed e = rw c (shown-still (fieldsOf ten .parameter))
     go Silent e = inl refl
-    go (Refused f) e = refused-idle Still f (fieldsOf ten .parameter) (rw e at none) (inl refl)
-
-pub still-polls : (j : Judged) (h : Head) (t : ℕ) → Still (j .deed) → Polled h (toldOf j h t)
-unfolding toldOf storedBy measurementBy targetsBy restartsOf clearedOf releasedOf
-still-polls j h t (inl e) =
-    rw e (record { stored = refl; first = refl; valid1 = refl; second = refl; valid2 = refl; word = refl; m = refl; zero = refl; adopted = refl; incremental = refl; start = refl; keys = refl })
-still-polls j h t (inr (inl e)) =
-    rw e (record { stored = refl; first = refl; valid1 = refl; second = refl; valid2 = refl; word = refl; m = refl; zero = refl; adopted = refl; incremental = refl; start = refl; keys = refl })
-still-polls j h t (inr (inr e)) =
-    rw e (record { stored = refl; first = refl; valid1 = refl; second = refl; valid2 = refl; word = refl; m = refl; zero = refl; adopted = refl; incremental = refl; start = refl; keys = refl })
+    go (Refused f) e = refused-idle (Still (fieldsOf ten .parameter)) f (fieldsOf ten .parameter) (rw e at none) (inl refl)
 
 -- ---- what a write of a stored parameter does: nothing, or it stores
 abbrev Setting : Deed → ℕ → ℕ → Type 0
@@ -251,6 +354,35 @@ told-marks j h t = go (restartsOf (j .deed))
         let c = complained-is (j .verdict) (countedOf (j .hit) (h .faults)) in
         (d .0 ∙ ap (λ (f : Faults). f .hit) c, d .1 ∙ ap (λ (f : Faults). f .damaged) c)
 
+-- a sound telegram leaves the remembered and the pending error as they were
+pub counted-sound : (x : ℕ) (f : Faults) → x ≡ 0 → (countedOf x f .memory ≡ f .memory) × (countedOf x f .pending ≡ f .pending)
+unfolding countedOf
+counted-sound x f e = rw e (refl, refl)
+
+-- what a read does to each part
+still-polls : (j : Judged) (h : Head) (t a : ℕ) → Still a (j .deed) → Polled h (toldOf j h t) a (j .hit)
+unfolding toldOf storedBy measurementBy targetsBy faultsBy restartsOf clearedOf releasedOf
+still-polls j h t a still = go still
+  where
+    entered : (x : ℕ) → x ≡ 0 → let f = complainedOf (j .verdict) (countedOf x (h .faults)) in (f .pending ≡ h .faults .pending) × (f .memory ≡ h .faults .memory)
+    entered x s =
+        let c = complained-is (j .verdict) (countedOf x (h .faults)) in
+        let k = counted-sound x (h .faults) s in
+        (ap (λ (f : Faults). f .pending) c ∙ k .1, ap (λ (f : Faults). f .memory) c ∙ k .0)
+
+    go : Still a (j .deed) → Polled h (toldOf j h t) a (j .hit)
+    go (inl e) =
+        rw e (record { stored = refl; first = refl; valid1 = refl; second = refl; valid2 = refl; word = refl; m = refl; zero = refl; adopted = refl; incremental = refl; start = refl; keys = refl; reached = λ n. refl; frozen = λ n. refl; kept = λ n. refl; pending = λ s. entered (j .hit) s .0; memory = λ s. entered (j .hit) s .1 })
+    go (inr (inl (e, p))) =
+        rw e (record { stored = refl; first = refl; valid1 = refl; second = refl; valid2 = refl; word = refl; m = refl; zero = refl; adopted = refl; incremental = refl; start = refl; keys = refl; reached = λ n. absurd (n p); frozen = λ n. refl; kept = λ n. refl; pending = λ s. entered (j .hit) s .0; memory = λ s. entered (j .hit) s .1 })
+    go (inr (inr (e, p))) =
+        rw e (record { stored = refl; first = refl; valid1 = refl; second = refl; valid2 = refl; word = refl; m = refl; zero = refl; adopted = refl; incremental = refl; start = refl; keys = refl; reached = λ n. refl; frozen = λ n. absurd (n p); kept = λ n. absurd (n p); pending = λ s. entered (j .hit) s .0; memory = λ s. entered (j .hit) s .1 })
+
+pub read-polls : (ten : List ℕ) (h : Head) (t : ℕ) → fieldsOf ten .command ≡ 0
+    → Polled h (toldOf (judgedOf ten (standingOf h)) h t) (fieldsOf ten .parameter) (hitOf ten)
+unfolding judgedOf
+read-polls ten h t c = still-polls (judgedOf ten (standingOf h)) h t (fieldsOf ten .parameter) (read-still ten h c)
+
 pub told-spares : (ten : List ℕ) (h : Head) (t : ℕ) → let j = judgedOf ten (standingOf h) in
     hitOf ten ≡ 0 → j .deed ≢ Restart → (toldOf j h t .faults .hit ≡ h .faults .hit) × (toldOf j h t .faults .damaged ≡ 0)
 unfolding judgedOf countedOf
@@ -290,7 +422,7 @@ counted-damaged f x n = rw (ne-eqb x 0 n) (go (ltb (f .damaged) 2))
     go true = (refl, refl, refl, refl)
     go false = (refl, refl, refl, refl)
 
-counted-inputs : (x : ℕ) (f : Faults) → countedOf x f .inputs ≡ f .inputs
+pub counted-inputs : (x : ℕ) (f : Faults) → countedOf x f .inputs ≡ f .inputs
 unfolding countedOf raisedOf
 counted-inputs x f =
     either (λ (g : Faults). g .inputs ≡ f .inputs) (eqb x 0) refl (either (λ (g : Faults). g .inputs ≡ f .inputs) (ltb (f .damaged) 2) refl refl)
@@ -355,11 +487,12 @@ pub refused-told : (h : Head) (b t : ℕ) (space : List ℕ) → Taken h space �
     (product .onHead .byte h b t (length space) .heard ≡ heard.Replies 1) × (x .parameter ≡ 0xFD) × (x .value ≡ codeOf f)
 refused-told h b t space k e f v =
     let j = judging h b t in
-    let is = refused-error j h (statusOf h) f v in
-    let a = answers h b t space k e (rw is (said-loud (j .telegram) (statusOf h) f)) in
-    let c = code-told (j .telegram) (statusOf h) f in
-    let r : take 10 (product .onHead .space h b t space) ≡ errorReply (j .telegram) (statusOf h) f .reply =
-    rw (a .1) (take-at (replyOf j h (statusOf h) .reply) (drop 10 space) 10 (reply-ten j h (statusOf h)) ∙ ap (λ (s : Said). s .reply) is) in
+    let after = told h b t in
+    let word = carriedOf (j .deed) h after in
+    let is = refused-error j h after f v in
+    let a = answers h b t space k e (rw is (said-loud (j .telegram) word f)) in
+    let c = code-told (j .telegram) word f in
+    let r = answered h b t space k e (a .0) .1 ∙ ap (λ (s : Said). s .reply) is in
     rw r (a .0, c .0, c .1)
 
 pub refuses : (h : Head) (b t : ℕ) (space : List ℕ) → Taken h space → gatheredOf (h .ear) b t .whole ≡ true

@@ -70,11 +70,15 @@ module _ (h : Head) (x : ℕ) where
       elim (restartsOf (j .deed)) as (λ b. Alike (cond b (restartedOf (affectedOf j other t)) (affectedOf j other t)) (cond b (restartedOf (affectedOf j h t)) (affectedOf j h t)))
       [ true ↦ ap restartedOf (affected-alike j t) | false ↦ affected-alike j t ]
 
+  told-word : (j : Judged) (t : ℕ) → statusOf (toldOf j other t) ≡ statusOf (toldOf j h t)
+  unfolding statusOf
+  told-word j t = ap statusOf (told-alike j t)
+
   tells : (ten : List ℕ) (t : ℕ) → Steps Alike (tellOf other ten t) (tellOf h ten t)
-  unfolding tellOf standingOf statusOf
+  unfolding tellOf standingOf
   tells ten t =
       let j = judgedOf ten (standingOf h) in
-      let r = reply-apart h (h .ear) x (h .stored .offer) j (statusOf h) in
+      let r = reply-apart h (h .ear) x (h .stored .offer) j (toldOf j other t) (toldOf j h t) (told-word j t) in
       (ap (λ (s : Said). s .replied) r, ap (λ (s : Said). s .reply) r, told-alike j t)
 
   steps : (b t : ℕ) → Steps Alike (stepOf other b t) (stepOf h b t)

@@ -10,7 +10,6 @@ use lib.ListN.{length, length-append}
 use Rattle.judge.specs.Judged.{judgedOf}
 use Rattle.state.specs.declared.parts.Head.{Head}
 use Rattle.state.specs.declared.parts.Ear.{Ear}
-use Rattle.state.specs.Status.{statusOf}
 use Rattle.head.specs.declared.hear.Stepped.{Stepped}
 use Rattle.head.specs.Hear.{standingOf, toldOf, tellOf, withEar, stepOf}
 use Rattle.line.specs.Round.{saidBy}
@@ -31,8 +30,9 @@ said (b ∷ bs) τ i h = saidBy (stepOf h b (τ i)) ++ said bs τ (suc i) (stepO
 
 -- a telegram does not look at the bytes gathered
 pub tell-apart : (h : Head) (e : Ear) (ten : List ℕ) (t : ℕ) → tellOf (withEar h e) ten t ≡ tellOf h ten t
-unfolding tellOf standingOf toldOf statusOf
-tell-apart h e ten t = rw (reply-apart h e (h .faults .hit) (h .stored .offer) (judgedOf ten (standingOf h)) (statusOf h))
+unfolding tellOf standingOf toldOf
+tell-apart h e ten t =
+    let j = judgedOf ten (standingOf h) in rw (reply-apart h e (h .faults .hit) (h .stored .offer) j (toldOf j h t) (toldOf j h t) refl)
 
 -- ---- bytes in time
 gather-on : (g : past.Ear) (b t : ℕ) → since t (g .last) ≤ 10 → gather g b t ≡ g .bytes ++ (b ∷ [])

@@ -15,10 +15,9 @@ use Rattle.state.specs.declared.parts.Stored.{Stored}
 use Rattle.state.specs.declared.parts.Faults.{Faults}
 use Rattle.state.specs.declared.parts.Monitor.{Monitor}
 use Rattle.state.specs.Errors.{emptyList, rememberedOf}
-use Rattle.state.specs.Status.{statusOf}
 use Rattle.effects.specs.Restart.{freshOf}
 use Rattle.reply.specs.Reply.{replyOf}
-use Rattle.head.specs.Hear.{gatheredOf, standingOf, withEar}
+use Rattle.head.specs.Hear.{gatheredOf, standingOf, toldOf, withEar}
 use Rattle.head.specs.Calls.{factoryOf, byteOf, byteSpaceOf}
 use Rattle.head.specs.declared.refusal.Refusal.{Refusal}
 use Rattle.head.specs.declared.calls.Heard.the-variants as heard
@@ -38,7 +37,7 @@ use Rattle.demands.proofs.Echo.{echoing-fails, hasty-fails}
 
 -- ---- a head at 31, and others made of it: with an error remembered and one replied; with a key down; with 02h 1 and the monitor running since
 -- 0; with nine bytes of a telegram gathered. Ten bytes of space
-abbrev new : Head
+abbrev pub new : Head
 new = freshOf 31
 
 abbrev like : Stored → Faults → Monitor → ℕ → Head
@@ -58,10 +57,10 @@ watched =
     like (record { values = set (s .values) 2 1; number = s .number; baud = s .baud; offer = s .offer; unlocked = s .unlocked }) (new .faults)
     (record { running = true; since = 0 }) 0
 
-abbrev gathered : Head → ℕ → Head
+abbrev pub gathered : Head → ℕ → Head
 gathered h nine = withEar h (record { bytes = split 9 nine ++ (0 ∷ []); count = 9; at = 0 })
 
-abbrev space : List ℕ
+abbrev pub space : List ℕ
 space = replicate 10 0
 
 -- ---- refuses, changes nothing, invents the count: by the first byte of a telegram
@@ -90,8 +89,8 @@ judged h b = judgedOf (gatheredOf (h .ear) b 0 .ten) (standingOf h)
 record Ends (h : Head) (b reply : ℕ) : Type 0 where
   taken : Taken h space
   ends : gatheredOf (h .ear) b 0 .whole ≡ true
-  answered : replyOf (judged h b) h (statusOf h) .replied ≡ true
-  reply-is : replyOf (judged h b) h (statusOf h) .reply ≡ split 10 reply
+  answered : replyOf (judged h b) h (toldOf (judged h b) h 0) .replied ≡ true
+  reply-is : replyOf (judged h b) h (toldOf (judged h b) h 0) .reply ≡ split 10 reply
   heard-is : byteOf h b 0 10 .heard ≡ heard.Replies 1
   laid-is : byteSpaceOf h b 0 space ≡ split 10 reply
 

@@ -1,7 +1,7 @@
 -- Demand 2: each telegram gets the answer, or the silence, that the manual and document 01 give it, and the head then stands as they say; each
 -- telegram a head sends passes its own check. The definitions of a telegram's way through a head are those of the crates judge (the seven
--- checks, what is done), effects (what each deed does) and head (the answer, the status word); here they are tied to the public byte call. What
--- the other calls do to a head is in Alone, and what a line's calls are to its heads in Lines.
+-- checks, what is done), effects (what each deed does), reply (the answer, with its status word) and head; here they are tied to the public byte
+-- call. What the other calls do to a head is in Alone, and what a line's calls are to its heads in Lines.
 -- Assumes nothing.
 use Prim.Native.Nat.{ℕ, _<_, _≤_}
 use mathlib.Core.Path.{_≡_}
@@ -18,7 +18,6 @@ use Rattle.judge.specs.Judged.{judgedOf}
 use Rattle.state.specs.declared.parts.Head.{Head}
 use Rattle.state.specs.declared.parts.ErrorList.{ErrorList}
 use Rattle.state.specs.Errors.{rememberedOf}
-use Rattle.state.specs.Status.{statusOf}
 use Rattle.state.specs.Wellformed.{wellformedOf}
 use Rattle.head.specs.declared.calls.Answer.the-variants.{Done}
 use Rattle.head.specs.declared.calls.Heard.the-variants as heard
@@ -43,14 +42,14 @@ pub record Demand2 (m : System) : Type 0 where
   -- a byte that ends a telegram: the head stands as the telegram's way through it says
   pub obeys : (h : Head) (b t : ℕ) (space : List ℕ) → Taken h space → gatheredOf (h .ear) b t .whole ≡ true
       → let j = judgedOf (gatheredOf (h .ear) b t .ten) (standingOf h) in m .onHead .byte h b t (length space) .head ≡ toldOf j h t
-  -- and it is answered as that way says, with the status word of before: the reply in the first ten bytes, the rest unchanged
+  -- and it is answered as that way says, by the head before and the head after: the reply in the first ten bytes, the rest unchanged
   pub answers : (h : Head) (b t : ℕ) (space : List ℕ) → Taken h space → gatheredOf (h .ear) b t .whole ≡ true
-      → let j = judgedOf (gatheredOf (h .ear) b t .ten) (standingOf h) in replyOf j h (statusOf h) .replied ≡ true
+      → let j = judgedOf (gatheredOf (h .ear) b t .ten) (standingOf h) in replyOf j h (toldOf j h t) .replied ≡ true
       → (m .onHead .byte h b t (length space) .heard ≡ heard.Replies 1)
-      × (m .onHead .space h b t space ≡ replyOf j h (statusOf h) .reply ++ drop 10 space)
+      × (m .onHead .space h b t space ≡ replyOf j h (toldOf j h t) .reply ++ drop 10 space)
   -- or stays silent, and no byte of the space changes
   pub keeps-silent : (h : Head) (b t : ℕ) (space : List ℕ) → Taken h space → gatheredOf (h .ear) b t .whole ≡ true
-      → let j = judgedOf (gatheredOf (h .ear) b t .ten) (standingOf h) in replyOf j h (statusOf h) .replied ≡ false
+      → let j = judgedOf (gatheredOf (h .ear) b t .ten) (standingOf h) in replyOf j h (toldOf j h t) .replied ≡ false
       → (m .onHead .byte h b t (length space) .heard ≡ heard.Replies 0) × (m .onHead .space h b t space ≡ space)
   -- each telegram that a head sends, alone or on a line, passes its own check
   pub head-sound : (h : Head) (b t : ℕ) (space : List ℕ) → m .onHead .byte h b t (length space) .heard ≡ heard.Replies 1

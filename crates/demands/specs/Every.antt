@@ -1,9 +1,9 @@
--- What is the same for every telegram, over the public byte call of a head alone: what a reply copies; what a read, and a write of a stored
--- parameter, leave as they were; what a sound one and a damaged one do to the monitor and to the errors.
+-- What is the same for every telegram, over the public byte call of a head alone: what a reply copies, and which status word it carries; what a read,
+-- and a write of a stored parameter, leave as they were; what a sound one and a damaged one do to the monitor and to the errors.
 -- Assumes nothing.
-use Prim.Native.Nat.{ℕ, _+_, _<_}
+use Prim.Native.Nat.{ℕ, _+_, _<_, _≤_}
 use mathlib.Core.Path.{_≡_}
-use mathlib.Core.Bool.{Bool, true, false, cond, not, _&&_}
+use mathlib.Core.Bool.{Bool, true, false, cond, not, _&&_, _||_}
 use mathlib.Core.Logic.{_≢_}
 use mathlib.Core.List.{List}
 use lib.Dec.{ltb, eqb}
@@ -13,18 +13,26 @@ use Rattle.wire.specs.Check.{hitOf}
 use Rattle.wire.specs.declared.fault.Fault.{Fault}
 use Rattle.wire.specs.Faults.{codeOf}
 use Rattle.wire.specs.Telegram.{fieldsOf}
+use Rattle.wire.specs.Word.{byte0}
+use Rattle.signed.specs.Number.{wordOf}
+use Rattle.rows.specs.declared.access.Access.{Access}
+use Rattle.rows.specs.declared.access.Access.the-variants.{ReadWrite, ReadOnly, WriteOnly, Unknown}
+use Rattle.rows.specs.Access.{accessOf}
 use Rattle.rows.specs.Table.{rowOf, address}
 use Rattle.judge.specs.declared.deed.Deed.the-variants.{Restart}
 use Rattle.judge.specs.declared.verdict.Verdict.the-variants.{Refused}
 use Rattle.judge.specs.Judged.{judgedOf}
 use Rattle.state.specs.declared.parts.Head.{Head}
 use Rattle.state.specs.Errors.{rememberedOf}
-use Rattle.state.specs.Status.{statusOf}
+use Rattle.state.specs.Position.{viewOf}
+use Rattle.state.specs.Settings.{responsePlace}
+use Rattle.state.specs.Status.{statusOf, differenceOf}
 use Rattle.head.specs.declared.calls.Heard.the-variants as heard
 use Rattle.head.specs.Hear.{standingOf, gatheredOf}
 use Rattle.demands.specs.Past.{accepted}
 use Rattle.demands.specs.Run.{System}
 use Rattle.demands.specs.Alone.{Taken, setting}
+use Rattle.demands.specs.Acts.{actOf, Acted}
 
 -- the reply x to the telegram t copies command and node, and has this status word in the control word's place
 pub record Copies (t x : Telegram) (status : ℕ) : Type 0 where
@@ -32,9 +40,21 @@ pub record Copies (t x : Telegram) (status : ℕ) : Type 0 where
   pub node : x .node ≡ t .node
   pub word : x .word ≡ status
 
--- a head that was polled: what is stored, the set points with their validity and the taken control word, the measurement but for freezing, and
--- the keys are as they were; a read's data and control word are ignored
-pub record Polled (h k : Head) : Type 0 where
+-- the telegrams that keep the status word of before (document 02, request (iii)): writes of FBh and FFh, reads of FAh, and A0h 9
+abbrev pub keepsWord : Telegram → Bool
+keepsWord t =
+    (eqb (t .command) 1 && (eqb (t .parameter) 0xFB || (eqb (t .parameter) 0xFF || (eqb (t .parameter) 0xA0 && eqb (t .value) 9))))
+    || (eqb (t .command) 0 && eqb (t .parameter) 0xFA)
+
+-- the status word of the reply x to the telegram t: that of the head before where t is one of these and is obeyed, else that of the head after. (What is
+-- obeyed is answered with its own parameter, an error with FDh.)
+abbrev pub wordTold : Telegram → Telegram → Head → Head → ℕ
+wordTold t x before after = cond (eqb (x .parameter) (t .parameter) && keepsWord t) (statusOf before) (statusOf after)
+
+-- a head that was polled by a read of p, the exclusive-or of whose ten bytes is x: what is stored, the set points with their validity and the taken control
+-- word, the measurement and the keys are as they were, but that FAh may clear the static bit and FEh release the frozen value; and so are the errors, but
+-- for the input list, where it is sound
+pub record Polled (h k : Head) (p x : ℕ) : Type 0 where
   pub stored : k .stored ≡ h .stored
   pub first : k .targets .first ≡ h .targets .first
   pub valid1 : k .targets .valid1 ≡ h .targets .valid1
@@ -47,6 +67,11 @@ pub record Polled (h k : Head) : Type 0 where
   pub incremental : k .measurement .incremental ≡ h .measurement .incremental
   pub start : k .measurement .start ≡ h .measurement .start
   pub keys : k .keys ≡ h .keys
+  pub reached : p ≢ 0xFA → k .targets .reached ≡ h .targets .reached
+  pub frozen : p ≢ 0xFE → k .measurement .frozen ≡ h .measurement .frozen
+  pub kept : p ≢ 0xFE → k .measurement .kept ≡ h .measurement .kept
+  pub pending : x ≡ 0 → k .faults .pending ≡ h .faults .pending
+  pub memory : x ≡ 0 → k .faults .memory ≡ h .faults .memory
 
 -- one more damaged telegram is the third in a row
 abbrev pub third : Head → Bool
@@ -107,12 +132,30 @@ mine t h = eqb (t .node) (h .stored .number) && not (eqb (t .command) 2)
 abbrev pub locked : Head → Bool
 locked h = eqb (setting h 14) 1 && not (h .stored .unlocked)
 
+-- read and write, or read only
+abbrev pub readable : Access → Bool
+readable ReadWrite = true
+readable ReadOnly = true
+readable WriteOnly = false
+readable Unknown = false
+
+-- the answer to an FFh write, by 03h of the head before it and the head k after it: the set point, the current value as FEh would show it unfrozen, or the
+-- differential value
+abbrev pub aimAnswer : ℕ → Head → ℕ
+aimAnswer how k =
+    cond (eqb how 1) (wordOf (viewOf (k .stored .values) (k .measurement) .shown))
+    (cond (eqb how 2) (wordOf (differenceOf (k .stored .values) (k .measurement) (k .targets .second))) (k .targets .second))
+
 pub record Every (m : System) : Type 0 where
+  -- a reply copies command and node, and carries the status word of before or of after
   pub copies : (h : Head) (b t : ℕ) (space : List ℕ) → Taken h space → gatheredOf (h .ear) b t .whole ≡ true
       → m .onHead .byte h b t (length space) .heard ≡ heard.Replies 1
-      → Copies (fieldsOf (gatheredOf (h .ear) b t .ten)) (fieldsOf (take 10 (m .onHead .space h b t space))) (statusOf h)
+      → let asked = fieldsOf (gatheredOf (h .ear) b t .ten) in
+      let x = fieldsOf (take 10 (m .onHead .space h b t space)) in
+      Copies asked x (wordTold asked x h (m .onHead .byte h b t (length space) .head))
   pub polls : (h : Head) (b t : ℕ) (space : List ℕ) → Taken h space → gatheredOf (h .ear) b t .whole ≡ true
-      → fieldsOf (gatheredOf (h .ear) b t .ten) .command ≡ 0 → Polled h (m .onHead .byte h b t (length space) .head)
+      → let ten = gatheredOf (h .ear) b t .ten in
+      fieldsOf ten .command ≡ 0 → Polled h (m .onHead .byte h b t (length space) .head) (fieldsOf ten .parameter) (hitOf ten)
   -- a write of a stored parameter, of 1Fh too, leaves the zero, the adopted value and all else of the measurement, and the set points
   pub sets : (h : Head) (b t : ℕ) (space : List ℕ) → Taken h space → gatheredOf (h .ear) b t .whole ≡ true
       → fieldsOf (gatheredOf (h .ear) b t .ten) .command ≡ 1
@@ -163,6 +206,18 @@ pub record Every (m : System) : Type 0 where
       → (m .onHead .byte h b t (length space) .heard ≡ heard.Replies 0)
       × (m .onHead .space h b t space ≡ space)
       × Passed h (m .onHead .byte h b t (length space) .head) t (h .stored .offer)
+  -- no broadcast is answered
+  pub casts : (h : Head) (b t : ℕ) (space : List ℕ) → Taken h space → gatheredOf (h .ear) b t .whole ≡ true
+      → fieldsOf (gatheredOf (h .ear) b t .ten) .command ≡ 2
+      → (m .onHead .byte h b t (length space) .heard ≡ heard.Replies 0) × (m .onHead .space h b t space ≡ space)
+  -- a sound read, at the number in force, of a parameter that may be read is answered, with that parameter, whatever its control word and its data; of 96h where
+  -- its number is not above the count
+  pub read : (h : Head) (b t : ℕ) (space : List ℕ) → Taken h space → gatheredOf (h .ear) b t .whole ≡ true
+      → let ten = gatheredOf (h .ear) b t .ten in
+      hitOf ten ≡ 0 → fieldsOf ten .command ≡ 0 → fieldsOf ten .node ≡ h .stored .number → readable (accessOf (fieldsOf ten .parameter)) ≡ true
+      → (fieldsOf ten .parameter ≡ 0x96 → byte0 (fieldsOf ten .value) ≤ h .faults .inputs .count)
+      → (m .onHead .byte h b t (length space) .heard ≡ heard.Replies 1)
+      × (fieldsOf (take 10 (m .onHead .space h b t space)) .parameter ≡ fieldsOf ten .parameter)
   -- a write that is accepted, by the account's own tests, is answered, but for D2h; with the value written, but for FFh
   pub written : (h : Head) (b t : ℕ) (space : List ℕ) → Taken h space → gatheredOf (h .ear) b t .whole ≡ true
       → let ten = gatheredOf (h .ear) b t .ten in
@@ -171,6 +226,16 @@ pub record Every (m : System) : Type 0 where
       → (m .onHead .byte h b t (length space) .heard ≡ heard.Replies 1)
       × (x .parameter ≡ fieldsOf ten .parameter)
       × (fieldsOf ten .parameter ≢ 0xFF → fieldsOf ten .value < 4294967296 → x .value ≡ fieldsOf ten .value)
+  -- and one of FFh is answered by 03h, after the write
+  pub aimed : (h : Head) (b t : ℕ) (space : List ℕ) → Taken h space → gatheredOf (h .ear) b t .whole ≡ true
+      → let ten = gatheredOf (h .ear) b t .ten in
+      accepted (h .stored .number) (locked h) ten ≡ true → fieldsOf ten .command ≡ 1 → fieldsOf ten .parameter ≡ 0xFF → fieldsOf ten .value < 4294967296
+      → fieldsOf (take 10 (m .onHead .space h b t space)) .value ≡ aimAnswer (setting h responsePlace) (m .onHead .byte h b t (length space) .head)
+  -- an accepted write or broadcast, but for A0h 9, does what its address says, and leaves all else that is not stored
+  pub acts : (h : Head) (b t : ℕ) (space : List ℕ) → Taken h space → gatheredOf (h .ear) b t .whole ≡ true
+      → let asked = fieldsOf (gatheredOf (h .ear) b t .ten) in
+      accepted (h .stored .number) (locked h) (gatheredOf (h .ear) b t .ten) ≡ true → (eqb (asked .parameter) 0xA0 && eqb (asked .value) 9) ≡ false
+      → Acted h (m .onHead .byte h b t (length space) .head) (actOf (asked .parameter) (asked .value)) (asked .value) (asked .word)
   -- only a restart takes 00h and 01h into force: no write of them, and no reset
   pub in-force : (h : Head) (b t : ℕ) (space : List ℕ) → Taken h space → gatheredOf (h .ear) b t .whole ≡ true
       → judgedOf (gatheredOf (h .ear) b t .ten) (standingOf h) .deed ≢ Restart

@@ -3,7 +3,9 @@ pub mod Past
 pub mod Run
 pub mod Alone
 pub mod Lines
+pub mod Acts
 pub mod Every
+pub mod Words
 pub mod Bits
 pub mod Twenty
 pub mod Demand1
@@ -14,6 +16,7 @@ pub mod AutoId
 pub mod Unseen
 pub mod WrongHits
 pub mod WrongOffers
+pub mod WrongWords
 pub mod Ordered
 pub mod Proposed
 pub mod Wrong

@@ -1,5 +1,5 @@
--- A byte heard (document 01, "Times and keys", "A telegram's way through the head"): gathered, and with the tenth a telegram answered
--- and obeyed.
+-- A byte heard (document 01, "Times and keys", "A telegram's way through the head"): gathered, and with the tenth a telegram obeyed
+-- and answered.
 -- Assumes nothing.
 use Prim.Native.Nat.{ℕ, _+_, _-_, _%_}
 use mathlib.Core.Bool.{Bool, true, false, cond, not, _&&_}
@@ -15,7 +15,6 @@ use Rattle.judge.specs.Judged.{judgedOf}
 use Rattle.state.specs.declared.parts.Head.{Head}
 use Rattle.state.specs.declared.parts.Ear.{Ear}
 use Rattle.state.specs.declared.parts.Monitor.{Monitor}
-use Rattle.state.specs.Status.{statusOf}
 use Rattle.effects.specs.Stored.{lockedOf, storedBy}
 use Rattle.effects.specs.Faults.{countedOf, complainedOf, faultsBy}
 use Rattle.effects.specs.Measured.{measurementBy}
@@ -88,12 +87,13 @@ affectedOf j h at =
 unfoldable pub toldOf : Judged → Head → ℕ → Head
 toldOf j h at = cond (restartsOf (j .deed)) (restartedOf (affectedOf j h at)) (affectedOf j h at)
 
--- the reply, and its status word, are of the head before the telegram's effects
+-- the head after a telegram, and the reply to it
 abbrev pub stepped : Head → Said → Stepped
 stepped h s = record { head = h; replied = s .replied; reply = s .reply }
 
 unfoldable pub tellOf : Head → List ℕ → ℕ → Stepped
-tellOf h ten at = stepped (toldOf (judgedOf ten (standingOf h)) h at) (replyOf (judgedOf ten (standingOf h)) h (statusOf h))
+tellOf h ten at =
+    stepped (toldOf (judgedOf ten (standingOf h)) h at) (replyOf (judgedOf ten (standingOf h)) h (toldOf (judgedOf ten (standingOf h)) h at))
 
 -- sound, no broadcast, and the node byte is not this number: what such a telegram does is `passedOf`, with no reply
 unfoldable pub passesOf : List ℕ → ℕ → Bool

@@ -11,7 +11,6 @@ use judge::verdict::Standing;
 use state::parts::Ear;
 use state::parts::Head;
 use state::parts::Monitor;
-use state::status;
 ghost use mathlib.Core.Path.{_≡_};
 ghost use mathlib.Core.Bool.{Bool};
 ghost use Rattle.head.specs.Hear.{elapsedOf, keptEar, gatheredOf, standingOf, restartsOf, startedOf, affectedOf, toldOf, passesOf, passedOf, tellOf, stepOf};
@@ -158,8 +157,7 @@ fn passed(h: Head, at: u32) -> Head
     n
 }
 
-// A whole telegram. The reply and its status word are of the head before. Most telegrams that a head hears are sound and for another node:
-// they go the short way.
+// A whole telegram: the head after it, and the reply. Most telegrams that a head hears are sound and for another node: they go the short way.
 pub fn tell(h: Head, ten: [u8; 10], at: u32) -> Stepped
     ensures { λ r. ⌜ r ≡ tellOf h ten at ⌝ }
 {
@@ -173,10 +171,11 @@ pub fn tell(h: Head, ten: [u8; 10], at: u32) -> Stepped
         };
     }
     let j = judged::judge(ten, standing(h));
-    let s = reply::reply_to(j, h, status::status(h));
+    let n = told(j, h, at);
+    let s = reply::reply_to(j, h, n);
     let x = s.reply;
     Stepped {
-        head: told(j, h, at),
+        head: n,
         replied: s.replied,
         reply: x,
     }

@@ -61,7 +61,7 @@ module _ (number a v w : ℕ) (r : rangeOf a v ≡ Right) (f : eqb a 0xD2 ≡ tr
     where
       go : (p : Place) → placeOf a ≡ p → Allowed number (doneBy (storedOr p (otherOf a)) v w)
       go (At i) e = (place-below a e, range-fits a v e r)
-      go Nowhere e = other-has (λ k. Allowed number (doneBy k v w)) a tt tt (λ s. tt) ordered-allowed tt
+      go Nowhere e = other-has (λ k. Allowed number (doneBy k v w)) a (λ _. tt) (λ _. tt) (λ s. tt) ordered-allowed tt
 
 shown-allowed : (number a : ℕ) → Allowed number (shownBy a)
 unfolding shownBy

@@ -18,6 +18,7 @@ use Rattle.judge.specs.declared.verdict.Verdict.the-variants.{Obeyed, Silent, R
 use Rattle.judge.specs.Commands.{castsOf}
 use Rattle.state.specs.declared.parts.Head.{Head}
 use Rattle.reply.specs.declared.Said.{Said}
+use Rattle.reply.specs.Word.{carriedOf}
 use Rattle.reply.specs.Reply.{silence, fieldsSaid, said, errorReply, valueReply, replyBy, replyOf, adoptionOf}
 
 -- silence is no reply, and whatever is said passes the check; either has ten bytes
@@ -59,15 +60,15 @@ module _ (P : Said → Type 0) (quiet : P silence) (loud : (t : Telegram) (param
   by-has Silent j h word = quiet
   by-has (Refused fault) j h word = loud _ _ _ _
 
-  reply-has : (j : Judged) (h : Head) (word : ℕ) → P (replyOf j h word)
+  reply-has : (j : Judged) (h after : Head) → P (replyOf j h after)
   unfolding replyOf
-  reply-has j h word = by-has (j .verdict) j h word
+  reply-has j h after = by-has (j .verdict) j h (carriedOf (j .deed) h after)
 
 -- each telegram that a head sends passes its own check
-pub reply-sound : (j : Judged) (h : Head) (word : ℕ) → replyOf j h word .replied ≡ true → hitOf (replyOf j h word .reply) ≡ 0
+pub reply-sound : (j : Judged) (h after : Head) → replyOf j h after .replied ≡ true → hitOf (replyOf j h after .reply) ≡ 0
 reply-sound = reply-has Passes silence-passes said-passes
 
-pub reply-ten : (j : Judged) (h : Head) (word : ℕ) → length (replyOf j h word .reply) ≡ 10
+pub reply-ten : (j : Judged) (h after : Head) → length (replyOf j h after .reply) ≡ 10
 reply-ten = reply-has Ten silence-ten said-ten
 
 -- so does what a head sends that adopts a number
@@ -79,14 +80,14 @@ pub adoption-ten : (word number : ℕ) → length (adoptionOf word number) ≡ 1
 unfolding adoptionOf
 adoption-ten word number = built-ten _
 
-module _ (j : Judged) (h : Head) (word : ℕ) where
+module _ (j : Judged) (h after : Head) where
   -- a silent head does not reply
-  pub silent-none : j .verdict ≡ Silent → replyOf j h word .replied ≡ false
+  pub silent-none : j .verdict ≡ Silent → replyOf j h after .replied ≡ false
   unfolding replyOf silence
   silent-none e = rw e
 
   -- a refused telegram is answered with the error
-  pub refused-error : (f : Fault) → j .verdict ≡ Refused f → replyOf j h word ≡ errorReply (j .telegram) word f
+  pub refused-error : (f : Fault) → j .verdict ≡ Refused f → replyOf j h after ≡ errorReply (j .telegram) (carriedOf (j .deed) h after) f
   unfolding replyOf
   refused-error f e = rw e
 
@@ -105,6 +106,6 @@ by-quiet Silent j h word casts taken = refl
 by-quiet (Refused f) j h word casts taken = absurd (taken f refl)
 
 -- no broadcast is answered
-pub cast-none : (j : Judged) (h : Head) (word : ℕ) → castsOf (j .command) ≡ true → ((f : Fault) → j .verdict ≡ Refused f → ⊥) → replyOf j h word .replied ≡ false
+pub cast-none : (j : Judged) (h after : Head) → castsOf (j .command) ≡ true → ((f : Fault) → j .verdict ≡ Refused f → ⊥) → replyOf j h after .replied ≡ false
 unfolding replyOf
-cast-none j h word casts taken = by-quiet (j .verdict) j h word casts taken
+cast-none j h after casts taken = by-quiet (j .verdict) j h (carriedOf (j .deed) h after) casts taken

@@ -1,5 +1,5 @@
 -- What a head answers (document 01, "Ten bytes", "A telegram's way through the head", "What each one does"; D2h: document 02, request (ii)).
--- The status word that the reply carries is an argument.
+-- All read data are those of the head before the telegram's effects; the status word is that of Word.
 -- Assumes nothing.
 use Prim.Native.Nat.{ℕ, _+_, _-_, _*_}
 use mathlib.Core.Bool.{Bool, true, false, cond, not, _&&_}
@@ -28,6 +28,7 @@ use Rattle.state.specs.Errors.{entryOf}
 use Rattle.state.specs.Position.{viewOf}
 use Rattle.state.specs.Status.{statusOf, differenceOf}
 use Rattle.reply.specs.declared.Said.{Said}
+use Rattle.reply.specs.Word.{carriedOf}
 
 -- 96h returns its number in the first data byte: 0 gives the count, n the nth oldest code in the low bytes
 unfoldable pub inputOf : ErrorList → ℕ → ℕ
@@ -95,8 +96,9 @@ replyBy Obeyed j h word = valueReply j h word
 replyBy Silent j h word = silence
 replyBy (Refused fault) j h word = errorReply (j .telegram) word fault
 
-unfoldable pub replyOf : Judged → Head → ℕ → Said
-replyOf j h word = replyBy (j .verdict) j h word
+-- by the head before the telegram's effects and the head after them
+unfoldable pub replyOf : Judged → Head → Head → Said
+replyOf j before after = replyBy (j .verdict) j before (carriedOf (j .deed) before after)
 
 -- Auto-ID: what a head sends that adopts the number it was offered: a write's reply with node 31, parameter D2h and the new number as data
 unfoldable pub adoptionOf : ℕ → ℕ → List ℕ

@@ -1,4 +1,6 @@
-// What a head answers to a telegram that was judged. The status word is handed in.
+// What a head answers to a telegram that was judged.
+mod word;
+
 use judge::command;
 use judge::judged::Judged;
 use judge::verdict::Verdict;
@@ -166,10 +168,12 @@ fn value_reply(j: Judged, h: Head, word: u16) -> Said
     silent()
 }
 
-// The reply to a telegram, with this status word. An error reply has FDh as parameter.
-pub fn reply_to(j: Judged, h: Head, word: u16) -> Said
-    ensures { λ r. ⌜ r ≡ replyOf j h word ⌝ }
+// The reply to a telegram, by the head before its effects and the head after them. An error reply has FDh as parameter.
+pub fn reply_to(j: Judged, before: Head, after: Head) -> Said
+    ensures { λ r. ⌜ r ≡ replyOf j before after ⌝ }
 {
+    let d = j.deed;
+    let word = word::carried(d, before, after);
     let v = j.verdict;
     match v {
         Verdict::Silent => silent(),
@@ -177,7 +181,7 @@ pub fn reply_to(j: Judged, h: Head, word: u16) -> Said
             let t = j.telegram;
             saying(t, 0xFD, word, fault.code() as u32)
         }
-        Verdict::Obeyed => value_reply(j, h, word),
+        Verdict::Obeyed => value_reply(j, before, word),
     }
 }
 

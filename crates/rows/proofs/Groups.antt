@@ -127,8 +127,8 @@ pub either : {A : Type 0} (P : A → Type 0) (b : Bool) {x y : A} → (b ≡ tru
 either P true p q = p refl
 either P false p q = q
 
--- what holds of all kinds but the 39 holds of what stands behind such an address; an order stands behind its own
-pub other-has : (P : Kind → Type 0) (a : ℕ) → P kind.SetPoint1 → P kind.SetPoint2 → ((s : Shown) → P (kind.ReadOnly s))
+-- what holds of all kinds but the 39 holds of what stands behind such an address; a set point and an order stand behind their own
+pub other-has : (P : Kind → Type 0) (a : ℕ) → (eqb a 0xFB ≡ true → P kind.SetPoint1) → (eqb a 0xFF ≡ true → P kind.SetPoint2) → ((s : Shown) → P (kind.ReadOnly s))
     → ((o : Order) → eqb a (orderAt o) ≡ true → P (kind.WriteOnly o)) → P kind.Unknown → P (otherOf a)
 unfolding otherOf
 other-has P a one two shown order unknown =
@@ -143,11 +143,11 @@ other-has P a one two shown order unknown =
     (either P (eqb a 0xAA) (order Freezing)
     (either P (eqb a 0xD2) (order Assignment)
     (either P (eqb a 0xFA) (λ _. shown StatusWord)
-    (either P (eqb a 0xFB) (λ _. one)
+    (either P (eqb a 0xFB) one
     (either P (eqb a 0xFC) (λ _. shown Differential)
     (either P (eqb a 0xFD) (λ _. shown Pending)
     (either P (eqb a 0xFE) (λ _. shown Position)
-    (either P (eqb a 0xFF) (λ _. two) unknown)))))))))))))))
+    (either P (eqb a 0xFF) two unknown)))))))))))))))
 
 -- ---- each of the 256 addresses falls in exactly one group
 abbrev count : List ℕ → ℕ → ℕ

@@ -10,6 +10,7 @@ unfolding replyOf errorReply
 reply-to-spec =
     tie.close
     (tie.spec
+    (λ c κs. search needs)
     (λ c. search needs)
     (λ c κs. search needs)
     (λ c. search needs)
@@ -19,5 +20,5 @@ reply-to-spec =
     (λ c. search needs)
     (λ c κs. search needs)
     (λ c. rw (c .silent .ensures, c .before .enum-told .given .1))
-    (λ c. rw (c .saying .ensures, c .before .code .ensures, c .before .before .before .before .v .given .1))
-    (λ c. rw (c .value-reply .ensures, c .before .enum-told2 .given .1)))
+    (λ c. let k = c .before .before .before .before in rw (c .saying .ensures, c .before .code .ensures, k .v .given .1, k .before .before .carried .ensures))
+    (λ c. rw (c .value-reply .ensures, c .before .enum-told2 .given .1, c .before .before .before .carried .ensures)))

@@ -2,6 +2,7 @@
 //! force, set points for the places where the windows end, and ticks for the moments when a timeout is due.
 
 mod auto_id;
+mod status_word;
 
 use crate::random::Random;
 use crate::telegrams::Author;
@@ -18,6 +19,9 @@ pub const LINES: usize = 300;
 /// have no past to show.
 const AUTO_ID_STEPS: [u32; 4] = [14, 0, 8, 4];
 
+/// Of a hundred of the other steps, likewise.
+const STATUS_WORD_STEPS: [u32; 4] = [3, 10, 6, 7];
+
 /// Unknown words, missing and extra words, numbers that do not fit, hex digits that are none.
 const LINES_THAT_ARE_NONE: &str = "heads 1|HEAD 1|Send 0 00|head|head 1 2|head -1|head +1|head 1F|head 0x1F|\
     head 4294967296|head 42949672960|head 18446744073709551617|head 1#|send|send 0|send 0 0|send 0 001F2|\
@@ -33,6 +37,7 @@ pub struct Generator {
     now: u32,
     /// Of a hundred steps.
     auto_id_steps: u32,
+    status_word_steps: u32,
     lines: Vec<Vec<u8>>,
 }
 
@@ -43,8 +48,14 @@ pub fn script(seed: u64, number: u64) -> Text {
         1 => u32::MAX - random.below(3_000),
         _ => random.word(),
     };
-    let auto_id_steps = AUTO_ID_STEPS[(number % 4) as usize];
-    let mut generator = Generator { random, model: Simulation::new(), now, auto_id_steps, lines: Vec::new() };
+    let mut generator = Generator {
+        random,
+        model: Simulation::new(),
+        now,
+        auto_id_steps: AUTO_ID_STEPS[(number % 4) as usize],
+        status_word_steps: STATUS_WORD_STEPS[(number % 4) as usize],
+        lines: Vec::new(),
+    };
     generator.first_heads();
     while generator.lines.len() < LINES {
         generator.step();
@@ -79,6 +90,9 @@ impl Generator {
         }
         if self.random.chance(self.auto_id_steps) {
             return self.auto_id();
+        }
+        if self.random.chance(self.status_word_steps) {
+            return self.status_word();
         }
         match self.random.below(100) {
             0..=48 => self.send_telegrams(),
@@ -277,6 +291,33 @@ impl Generator {
         self.send(&bytes);
     }
 
+    // Telegrams for one head.
+
+    fn head(&self, number: usize) -> Head {
+        self.model.line().heads()[number].clone()
+    }
+
+    /// What an author writes for this head, in one send.
+    fn send_from(&mut self, number: usize, write: impl FnOnce(&mut Author) -> Vec<u8>) {
+        self.advance();
+        let head = self.head(number);
+        let bytes = write(&mut Author { random: &mut self.random, head: &head });
+        self.send(&bytes);
+    }
+
+    fn write_to(&mut self, number: usize, writes: &[(u8, u32)]) {
+        self.send_from(number, |author| {
+            let node = author.head.number_in_force();
+            let bytes = |&(parameter, data)| Telegram::new(WRITE, node, parameter, 0, data).bytes();
+            writes.iter().flat_map(bytes).collect()
+        });
+    }
+
+    fn keys_of(&mut self, number: usize, states: &[u32]) {
+        let state = self.random.pick(states);
+        self.write_line(format!("keys {number} {state}"));
+    }
+
     // Calls that name a head.
 
     fn measure(&mut self) {
@@ -296,10 +337,7 @@ impl Generator {
     fn measurement_near_set_point(&mut self, head: &Head) -> i32 {
         let window_1 = i64::from(head.value(rows::TARGET_WINDOW_1));
         let window_2 = i64::from(head.value(rows::TARGET_WINDOW_2));
-        let unit = match head.value(rows::DIVISOR_APPLICATION) {
-            2 => 1,
-            _ => head.divisor(),
-        };
+        let unit = unit(head);
         let edge = self.random.pick(&[0, 0, 1, window_1, window_1 + 1, window_2, window_2 + 1]);
         let rounding = self.random.pick(&[0, unit / 2, unit / 2 - 1, unit / 2 + 1]);
         let distance = (edge * unit + rounding) * self.random.pick(&[1, -1]);
@@ -319,6 +357,17 @@ impl Generator {
             _ => self.random.pick(&[0, 1, 4, 5]),
         };
         self.write_line(format!("keys {number} {state}"));
+    }
+
+    fn switch_incremental(&mut self, number: usize) {
+        self.keys_of(number, &[0]);
+        self.keys_of(number, &[4]);
+        self.keys_of(number, &[0]);
+    }
+
+    fn move_by_some(&mut self, number: usize) {
+        let measurement = self.random.between(-3_000, 3_000);
+        self.write_line(format!("measure {number} {measurement}"));
     }
 
     fn power(&mut self) {
@@ -469,6 +518,14 @@ impl Generator {
     fn passed_over(&mut self) {
         let line = self.random.pick(&["", " ", "\t \t", "#", "# head 1", "  #send 0 00", "#\t\u{e9}"]);
         self.write_raw(line.as_bytes().to_vec());
+    }
+}
+
+/// By how much a position is divided to give A.
+fn unit(head: &Head) -> i64 {
+    match head.value(rows::DIVISOR_APPLICATION) {
+        2 => 1,
+        _ => head.divisor(),
     }
 }
 

@@ -1,4 +1,4 @@
--- `head::hear::tell` meets its contract: the short way by its law, the other by the callees': judged, answered from the head before, and told.
+-- `head::hear::tell` meets its contract: the short way by its law, the other by the callees': judged, told, and answered.
 -- Assumes nothing.
 use mathlib.Core.Path.{sym, ap, _∙_}
 use Rattle.head.specs.Hear.{tellOf}
@@ -21,5 +21,4 @@ tell-spec =
     (λ c κs. search needs)
     (λ c κs. search needs)
     (λ c κs. search needs)
-    (λ c κs. search needs)
-    (λ c. rw (c .told .ensures, c .before .before .reply-to .ensures, c .before .before .before .status .ensures, c .before .before .before .before .judge .ensures, c .before .before .before .before .before .standing .ensures)))
+    (λ c. rw (c .before .reply-to .ensures, c .before .before .told .ensures, c .before .before .before .judge .ensures, c .before .before .before .before .standing .ensures)))

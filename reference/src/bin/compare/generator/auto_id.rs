@@ -82,33 +82,6 @@ impl Generator {
         self.press_up(twin);
     }
 
-    // Telegrams for one head.
-
-    fn head(&self, number: usize) -> Head {
-        self.model.line().heads()[number].clone()
-    }
-
-    /// What an author writes for this head, in one send.
-    fn send_from(&mut self, number: usize, write: impl FnOnce(&mut Author) -> Vec<u8>) {
-        self.advance();
-        let head = self.head(number);
-        let bytes = write(&mut Author { random: &mut self.random, head: &head });
-        self.send(&bytes);
-    }
-
-    fn write_to(&mut self, number: usize, writes: &[(u8, u32)]) {
-        self.send_from(number, |author| {
-            let node = author.head.number_in_force();
-            let bytes = |&(parameter, data)| Telegram::new(WRITE, node, parameter, 0, data).bytes();
-            writes.iter().flat_map(bytes).collect()
-        });
-    }
-
-    fn keys_of(&mut self, number: usize, states: &[u32]) {
-        let state = self.random.pick(states);
-        self.write_line(format!("keys {number} {state}"));
-    }
-
     // Before the offer.
 
     /// Something that the status word of the reply shows, that the restart keeps, or that might be taken for a
@@ -135,17 +108,6 @@ impl Generator {
     fn write_one_of(&mut self, number: usize, parameter: u8, values: &[u32]) {
         let value = self.random.pick(values);
         self.write_to(number, &[(parameter, value)]);
-    }
-
-    fn switch_incremental(&mut self, number: usize) {
-        self.keys_of(number, &[0]);
-        self.keys_of(number, &[4]);
-        self.keys_of(number, &[0]);
-    }
-
-    fn move_by_some(&mut self, number: usize) {
-        let measurement = self.random.between(-3_000, 3_000);
-        self.write_line(format!("measure {number} {measurement}"));
     }
 
     // The offer.
