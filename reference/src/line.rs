@@ -6,7 +6,7 @@ use crate::telegram::{Reply, TELEGRAM_LENGTH};
 pub const MOST_HEADS: usize = 8;
 const HIGHEST_KEY_STATE: u32 = 7;
 
-/// The refusals that a line made by calls alone can give, with document 01's numbers.
+/// The refusals that a line made by calls alone and a master can give, with the documents' numbers.
 #[derive(Clone, Copy, Debug, PartialEq, Eq)]
 pub enum Refusal {
     NodeNumber = 1,
@@ -15,6 +15,7 @@ pub enum Refusal {
     Measurement = 4,
     KeyState = 5,
     ReplySpace = 6,
+    CommandOrNode = 10,
 }
 
 impl Refusal {

@@ -1,8 +1,8 @@
 //! The script: what a line means, and the answer to it.
 
 use crate::line::{Line, Refusal};
+use crate::master::{Finding, Question};
 use crate::telegram::TELEGRAM_LENGTH;
-use std::fmt::Write as _;
 use std::io::{self, BufRead, ErrorKind, Write};
 
 /// Without the newline and a carriage return before it.
@@ -16,6 +16,10 @@ line, words separated by blanks or tabs, one line of output for each.
 
   head NODE            grow the line by a head; the first is head 0
   send TIME HEX        feed these bytes (two hex digits each), all at TIME
+  ask TIME COMMAND NODE PARAMETER WORD DATA
+                       build a telegram from these fields, feed its ten bytes,
+                       all at TIME, and read what comes back; COMMAND is 0 read,
+                       1 write or 2 broadcast, WORD the control word
   tick TIME            let the heads look at the clock
   measure HEAD VALUE   a head's measurement; VALUE may have a minus sign
   keys HEAD STATE      a head's keys: 1 left, 2 star, 4 up, or a sum of these
@@ -32,11 +36,15 @@ word starts with # are passed over.
                        its reply as twenty hex digits
   sent ...             the bytes are fed; then each reply as twenty hex digits,
                        or 'collision N' where N heads replied at once
+  asked ...            the bytes are fed; then for each reply 'value N', 'error
+                       HHHH' with the code as four hex digits, or 'foreign' for
+                       one that is no reply to what was asked, or 'collision N'
   xor HH               the exclusive-or of its ten bytes as two hex digits; 00
                        if the head has heard none since it last started
   refused N            1 node number not 1 to 127   4 measurement out of range
                        2 ninth head                 5 key state above 7
                        3 no such head               6 space under ten bytes
+                       10 command above 2 or node above 127
   error at line N      the line is none of these commands
 ";
 
@@ -44,6 +52,7 @@ word starts with # are passed over.
 pub enum Command {
     Head { node: u32 },
     Send { time: u32, bytes: Vec<u8> },
+    Ask { time: u32, question: Question },
     Tick { time: u32 },
     Measure { head: u32, value: i32 },
     Keys { head: u32, state: u32 },
@@ -78,6 +87,9 @@ fn command(words: &[&[u8]]) -> Option<Command> {
     match *words {
         [b"head", node] => Some(Command::Head { node: unsigned(node)? }),
         [b"send", time, hex] => Some(Command::Send { time: unsigned(time)?, bytes: bytes(hex)? }),
+        [b"ask", time, ref fields @ ..] => {
+            Some(Command::Ask { time: unsigned(time)?, question: question(fields)? })
+        }
         [b"tick", time] => Some(Command::Tick { time: unsigned(time)? }),
         [b"measure", head, value] => Some(Command::Measure { head: unsigned(head)?, value: signed(value)? }),
         [b"keys", head, state] => Some(Command::Keys { head: unsigned(head)?, state: unsigned(state)? }),
@@ -89,6 +101,25 @@ fn command(words: &[&[u8]]) -> Option<Command> {
         }
         _ => None,
     }
+}
+
+/// The five fields of a telegram, each a number that fits its bytes.
+fn question(words: &[&[u8]]) -> Option<Question> {
+    let &[command, node, parameter, control_word, data] = words else {
+        return None;
+    };
+    Some(Question {
+        command: narrow(command)?,
+        node: narrow(node)?,
+        parameter: narrow(parameter)?,
+        control_word: narrow(control_word)?,
+        data: unsigned(data)?,
+    })
+}
+
+/// Decimal digits of a number that fits fewer than 32 bits.
+fn narrow<T: TryFrom<u32>>(word: &[u8]) -> Option<T> {
+    T::try_from(unsigned(word)?).ok()
 }
 
 /// Decimal digits, leading zeros too, of a number that fits 32 bits.
@@ -168,6 +199,7 @@ impl Simulation {
         let outcome = match command {
             Command::Head { node } => self.line.grow(node),
             Command::Send { time, bytes } => return self.send(time, &bytes),
+            Command::Ask { time, question } => return self.ask(time, &question),
             Command::Tick { time } => {
                 self.line.tick(time);
                 Ok(())
@@ -188,19 +220,31 @@ impl Simulation {
     }
 
     fn send(&mut self, time: u32, bytes: &[u8]) -> String {
-        let mut answer = "sent".to_string();
+        self.feed(time, bytes, "sent", hex)
+    }
+
+    fn ask(&mut self, time: u32, question: &Question) -> String {
+        match question.telegram() {
+            Ok(telegram) => self.feed(time, &telegram, "asked", |reply| finding(question.finding(reply))),
+            Err(refusal) => refused(refusal),
+        }
+    }
+
+    /// Feeds the bytes. The answer has this word and then, for each byte that drew replies, what one says or
+    /// that they collided.
+    fn feed(&mut self, time: u32, bytes: &[u8], word: &str, said: impl Fn(&[u8]) -> String) -> String {
+        let mut answer = word.to_string();
         let mut space = vec![0; self.space];
         for &byte in bytes {
-            match self.line.byte(time, byte, &mut space) {
+            let told = match self.line.byte(time, byte, &mut space) {
                 // The space is the same for all bytes, so the first is refused and nothing has changed.
                 Err(refusal) => return refused(refusal),
-                Ok(0) => {}
-                Ok(1) => {
-                    answer.push(' ');
-                    answer.push_str(&hex(&space[..TELEGRAM_LENGTH]));
-                }
-                Ok(replies) => write!(answer, " collision {replies}").expect("a string takes it"),
-            }
+                Ok(0) => continue,
+                Ok(1) => said(&space[..TELEGRAM_LENGTH]),
+                Ok(replies) => format!("collision {replies}"),
+            };
+            answer.push(' ');
+            answer.push_str(&told);
         }
         answer
     }
@@ -224,6 +268,14 @@ impl Simulation {
 
 fn refused(refusal: Refusal) -> String {
     format!("refused {}", refusal.number())
+}
+
+fn finding(finding: Finding) -> String {
+    match finding {
+        Finding::Value(value) => format!("value {value}"),
+        Finding::Error(code) => format!("error {code:04X}"),
+        Finding::Foreign => "foreign".to_string(),
+    }
 }
 
 pub fn hex(bytes: &[u8]) -> String {
@@ -282,9 +334,25 @@ mod tests {
 
     #[test]
     fn every_command_is_understood() {
-        let commands: [(&[u8], Command); 9] = [
+        let fields = |command, node, parameter, control_word, data| Question {
+            command,
+            node,
+            parameter,
+            control_word,
+            data,
+        };
+        let commands: [(&[u8], Command); 12] = [
             (b"head 31", Command::Head { node: 31 }),
             (b"send 7 00fFA0", Command::Send { time: 7, bytes: vec![0x00, 0xFF, 0xA0] }),
+            (b"ask 7 0 31 32 0 5", Command::Ask { time: 7, question: fields(0, 31, 32, 0, 5) }),
+            (
+                b"ask 4294967295 255 255 255 65535 4294967295",
+                Command::Ask { time: u32::MAX, question: fields(255, 255, 255, u16::MAX, u32::MAX) },
+            ),
+            (
+                b"\task 0000000000007 002  0000 00030\t0000512 000000000001 ",
+                Command::Ask { time: 7, question: fields(2, 0, 30, 512, 1) },
+            ),
             (b"tick 4294967295", Command::Tick { time: u32::MAX }),
             (b"measure 0 -2147483648", Command::Measure { head: 0, value: i32::MIN }),
             (b"\t keys  1\t5 ", Command::Keys { head: 1, state: 5 }),
@@ -309,7 +377,13 @@ mod tests {
     fn what_is_no_command_is_an_error() {
         let lines = b"heads 1|HEAD 1|head|head 1 2|head -1|head +1|head 1a|head 0x1|head 4294967296|head 1#|\
             head 99999999999999999999|send 0|send 0 0|send 0 000|send 0 0G|send 0 00 00|send 0 0x00|\
-            send 4294967296 00|tick|tick 1 2|measure 0|measure 0 2147483648|measure 0 -2147483649|\
+            send 4294967296 00|ask|ask 0|ask 0 0|ask 0 0 31|ask 0 0 31 32|ask 0 0 31 32 0|ask 0 0 31 32 0 0 0|\
+            ask 4294967296 0 31 32 0 0|ask 0 256 31 32 0 0|ask 0 0 256 32 0 0|ask 0 0 31 256 0 0|\
+            ask 0 0 31 32 65536 0|ask 0 0 31 32 0 4294967296|ask -0 0 31 32 0 0|ask 0 -0 31 32 0 0|\
+            ask 0 0 -31 32 0 0|ask 0 0 31 -32 0 0|ask 0 0 31 32 -1 0|ask 0 0 31 32 0 -1|ask 0 0 31 32 0 -0|\
+            ask +0 0 31 32 0 0|ask 0 0 1F 32 0 0|ask 0 0 31 0x20 0 0|ask 0 0 31 20h 0 0|ask 0 0 31 32 0 0#|\
+            ask 0 0 31 32 0 18446744073709551616|ask 0 read 31 32 0 0|ASK 0 0 31 32 0 0|asked 0 0 31 32 0 0|\
+            ask0 0 0 31 32 0 0|tick|tick 1 2|measure 0|measure 0 2147483648|measure 0 -2147483649|\
             measure 0 -|measure 0 --1|measure 0 +1|measure -0 1|keys 0 -1|power|\
             xor|xor 0 0|xor -1|xor -0|xor x|xor 0x0|xor 4294967296|XOR 0|xor0|space 65|space -1|\
             head 1\r\r|head\x0B1|\xFF\x00";

@@ -7,7 +7,7 @@ pub const WRITE: u8 = 0x01;
 pub const BROADCAST: u8 = 0x02;
 
 /// The parameter byte of an error reply.
-const ERROR_TELEGRAM: u8 = 0xFD;
+pub const ERROR_TELEGRAM: u8 = 0xFD;
 
 /// An error's two bytes, code 2 high and code 1 low, in the order in which they stand on the wire.
 pub type ErrorCode = u16;

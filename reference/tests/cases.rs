@@ -10,12 +10,20 @@ fn assert_same_lines(answers: &str, expected: &str) {
     assert_eq!(answers.lines().count(), expected.lines().count());
 }
 
+fn assert_answers(script: &[u8], expected: &str) {
+    let mut output = Vec::new();
+    script::run(script, &mut output).unwrap();
+    assert_same_lines(&String::from_utf8(output).unwrap(), expected);
+}
+
 #[test]
 fn the_cases_of_simulate() {
-    let script = include_bytes!("../../crates/simulate/stdin");
-    let mut output = Vec::new();
-    script::run(&script[..], &mut output).unwrap();
-    assert_same_lines(&String::from_utf8(output).unwrap(), include_str!("../../crates/simulate/stdout"));
+    assert_answers(include_bytes!("../../crates/simulate/stdin"), include_str!("../../crates/simulate/stdout"));
+}
+
+#[test]
+fn the_questions() {
+    assert_answers(include_bytes!("../../tests/ask.script"), include_str!("../../tests/ask.answers"));
 }
 
 #[test]

@@ -67,6 +67,20 @@ fn refusal_6_reply_space_at_any_byte() {
 }
 
 #[test]
+fn refusal_10_command_or_node_goes_before_6() {
+    let mut desk = Desk::with_heads(&[31]);
+    for size in [10, 9] {
+        desk.ok(&format!("space {size}"));
+        for fields in ["3 31 32 0 0", "0 128 32 0 0", "255 255 255 65535 4294967295"] {
+            assert_eq!(desk.line(&format!("ask 0 {fields}")), "refused 10", "{fields}");
+        }
+    }
+    assert_eq!(desk.line("ask 0 0 31 32 0 0"), "refused 6");
+    desk.ok("space 10");
+    assert_eq!(desk.line("ask 0 0 31 32 0 0"), "asked value 5");
+}
+
+#[test]
 fn the_space_past_a_reply_and_under_a_collision_is_unchanged() {
     let mut line = Line::new();
     line.grow(31).unwrap();

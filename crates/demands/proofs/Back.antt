@@ -42,7 +42,7 @@ use Rattle.line.specs.Round.{saidBy}
 use Rattle.demands.specs.Calls.{Calls, Bytes}
 use Rattle.demands.specs.Past.{count, value, inForce}
 use Rattle.demands.specs.Run.{replied, answers, built, headIn}
-use Rattle.demands.specs.Demand3.{ReadsBack}
+use Rattle.demands.specs.Demand3.{Steady, ReadsBack}
 use Rattle.demands.proofs.Sim.{sim}
 use Rattle.demands.proofs.Range.{well-at, value-small}
 use Rattle.demands.proofs.Whole.{said, whole}
@@ -101,17 +101,17 @@ step-ten h b t = go (gatheredOf (h .ear) b t .whole) refl
     go false e = rw e
 
 module _ (space : List ℕ) (wide : 10 ≤ length space) where
-  call-said : (h : Head) (b t : ℕ) (x : Bool) → wellformedOf h ≡ true → stepOf h b t .replied ≡ x
+  pub call-said : (h : Head) (b t : ℕ) (x : Bool) → wellformedOf h ≡ true → stepOf h b t .replied ≡ x
       → replied (byteOf h b t (length space) .heard) (take 10 (byteSpaceOf h b t space)) ≡ saidBy (stepOf h b t)
   unfolding byteOf byteSpaceOf laidOn
   call-said h b t true w e = simp (w, le-ltb (length space) 10 wide, e, take-at (stepOf h b t .reply) (drop 10 space) 10 (step-ten h b t))
   call-said h b t false w e = simp (w, le-ltb (length space) 10 wide, e)
 
-  call-fed : (h : Head) (b t : ℕ) → wellformedOf h ≡ true → byteOf h b t (length space) .head ≡ stepOf h b t .head
+  pub call-fed : (h : Head) (b t : ℕ) → wellformedOf h ≡ true → byteOf h b t (length space) .head ≡ stepOf h b t .head
   unfolding byteOf
   call-fed h b t w = simp (w, le-ltb (length space) 10 wide)
 
-  calls-said : (bs : List ℕ) (τ : ℕ → ℕ) (i : ℕ) (h : Head) → wellformedOf h ≡ true → answers built bs τ i h space ≡ said bs τ i h
+  pub calls-said : (bs : List ℕ) (τ : ℕ → ℕ) (i : ℕ) (h : Head) → wellformedOf h ≡ true → answers built bs τ i h space ≡ said bs τ i h
   calls-said [] τ i h w = refl
   calls-said (b ∷ bs) τ i h w =
       rw (call-said h b (τ i) (stepOf h b (τ i) .replied) w refl, call-fed h b (τ i) w, calls-said bs τ (suc i) (stepOf h b (τ i) .head) (step-fits h b (τ i) w))
@@ -127,20 +127,32 @@ module _ (h : Head) (f r v : ℕ) (lt : r < 39) (well : wellformedOf h ≡ true)
   none-well =
       let w = told h well in holds none (record { stored = w .stored; faults = w .faults; measurement = w .measurement; ear = refl; keys = w .keys })
 
+  -- the one reply, word for word: a read's, with the value for its data
+  pub read-sent : (τ : ℕ → ℕ) (word data′ : ℕ) (space : List ℕ) → Steady τ → 10 ≤ length space
+      → (w : ℕ) × (answers built (sent f r word data′) τ 0 none space ≡ sent f r w v ∷ [])
+  unfolding bytesOf emptyEar
+  read-sent τ word data′ space steady wide = (
+    told-word none f r v word data′ (τ 9) lt force-is value-is,
+    calls-said space wide (sent f r word data′) τ 0 none none-well
+        ∙ whole τ steady none refl refl (nineOf (record { command = 0; node = f; parameter = address (rowOf r); word = word; value = data′ })) _ refl .1
+        ∙ read-told none f r v word data′ (τ 9) lt force-is value-is,
+  )
+
   pub read-back : ReadsBack built h f r v
   unfolding bytesOf fieldsOf emptyEar
   read-back =
       record {
-        reads-back = λ τ word data′ space steady wide. (
-          sent f r (told-word none f r v word data′ (τ 9) lt force-is value-is) v,
-          calls-said space wide (sent f r word data′) τ 0 none none-well
-              ∙ whole τ steady none refl refl (nineOf (record { command = 0; node = f; parameter = address (rowOf r); word = word; value = data′ })) _ refl .1
-              ∙ read-told none f r v word data′ (τ 9) lt force-is value-is,
-          record { passes = built-sound _; own = refl; shown = sent-value f r (told-word none f r v word data′ (τ 9) lt force-is value-is) v small },
-        );
+        reads-back = λ τ word data′ space steady wide.
+            let x = read-sent τ word data′ space steady wide in
+            (sent f r (x .0) v, x .1, record { passes = built-sound _; own = refl; shown = sent-value f r (x .0) v small });
       }
 
 -- what looking back finds is what is read back
+pub now-sent : (cs : Calls) (k r : ℕ) → Bytes cs → k < count cs → r < 39 → (τ : ℕ → ℕ) (word data′ : ℕ) (space : List ℕ) → Steady τ → 10 ≤ length space
+    → (w : ℕ) × (answers built (sent (inForce cs k) r word data′) τ 0 (built .emptied (headIn cs k)) space ≡ sent (inForce cs k) r w (value cs k r) ∷ [])
+now-sent cs k r bytes kl rl =
+    read-sent (headIn cs k) (inForce cs k) r (value cs k r) rl (well-at cs k kl) (sim cs k kl .force-is) (sim cs k kl .vals-are r rl) (value-small cs bytes k r rl)
+
 pub now-back : (cs : Calls) (k r : ℕ) → Bytes cs → k < count cs → r < 39 → ReadsBack built (headIn cs k) (inForce cs k) r (value cs k r)
 now-back cs k r bytes kl rl =
     read-back (headIn cs k) (inForce cs k) r (value cs k r) rl (well-at cs k kl) (sim cs k kl .force-is) (sim cs k kl .vals-are r rl) (value-small cs bytes k r rl)

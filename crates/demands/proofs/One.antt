@@ -191,7 +191,7 @@ module _ (h : Head) (ten : List ℕ) (t : ℕ) (other : eqb (fieldsOf ten .node)
       go (Refused f) e = absurd (true≢false (sym (refused-mine _ (fieldsOf ten) (standingOf h) e) ∙ other))
 
   -- is not answered
-  told-mute : tellOf h ten t .replied ≡ false
+  pub told-mute : tellOf h ten t .replied ≡ false
   unfolding tellOf judgedOf
   told-mute =
       ⊎-elim (λ e. silent-none (judgedOf ten (standingOf h)) h _ e)

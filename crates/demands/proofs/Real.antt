@@ -1,13 +1,15 @@
 -- The calls are the product's: each contract is the equation that the product has for it.
 -- Assumes nothing.
-use mathlib.Core.Path.{_≡_, _∙_, refl}
+use mathlib.Core.Path.{_≡_, _∙_, refl, sym}
 use Rattle.head.specs.Calls.{madeOf, factoryOf}
 use Rattle.head.specs.Outcome.{called}
 use Rattle.order_form.specs.Check.{answerOf}
 use Rattle.order_form.proofs.Held.{added}
 use Rattle.free_number.specs.Demand as keeper
+use Rattle.master.specs.Demand as master
+use Rattle.master.proofs.Laws.{refusal-ten}
 use Rattle.demands.specs.Run.{product, askOf}
-use Rattle.demands.specs.Real.{Real, RealForm, RealMap}
+use Rattle.demands.specs.Real.{Real, RealForm, RealMap, RealMaster}
 use Rattle.demands.proofs.Computing.{computing}
 
 factory-made : factoryOf ≡ madeOf 31 .head
@@ -85,4 +87,15 @@ real-map =
       count = λ κs a y u p. p;
       number-asks = λ κs a. tt;
       map-number = λ κs a y u p. p;
+    }
+
+pub real-master : RealMaster master.product
+real-master =
+    record {
+      build-asks = λ κs a. tt;
+      read-asks = λ κs a. tt;
+      number-asks = λ κs a. tt;
+      build = λ κs a y u p. p;
+      read = λ κs a y u p. p;
+      master-number = λ κs a y u p. p ∙ sym (refusal-ten (a .0));
     }

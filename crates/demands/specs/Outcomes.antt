@@ -12,6 +12,7 @@ use Rattle.wire.proofs.check as wire-check
 use Rattle.wire.proofs.fault as wire-fault
 use Rattle.wire.proofs.telegram as wire-telegram
 use Rattle.wire.proofs.word as wire-word
+use Rattle.master.proofs as master
 use Rattle.signed.proofs as signed
 use Rattle.rows.proofs.access as rows-access
 use Rattle.rows.proofs.kind as rows-kind
@@ -67,6 +68,9 @@ pub record Outcomes : Type 0 where
   pub wire-word-fourth : One wire-word.fourth.Kinds.ps wire-word.fourth.Kinds.r wire-word.fourth.Reads.Post
   pub wire-word-high : One wire-word.high.Kinds.ps wire-word.high.Kinds.r wire-word.high.Reads.Post
   pub wire-word-low : One wire-word.low.Kinds.ps wire-word.low.Kinds.r wire-word.low.Reads.Post
+  pub master-number : One master.Refusal.number.Kinds.ps master.Refusal.number.Kinds.r master.Refusal.number.Reads.Post
+  pub master-build : One master.build.Kinds.ps master.build.Kinds.r master.build.Reads.Post
+  pub master-read : One master.read.Kinds.ps master.read.Kinds.r master.read.Reads.Post
   pub signed-number : One signed.number.Kinds.ps signed.number.Kinds.r signed.number.Reads.Post
   pub signed-word : One signed.word.Kinds.ps signed.word.Kinds.r signed.word.Reads.Post
   pub signed-size : One signed.size.Kinds.ps signed.size.Kinds.r signed.size.Reads.Post

@@ -37,6 +37,8 @@ use Rattle.free_number.specs.Used as free
 use Rattle.free_number.specs.Demand.{Keeper}
 use Rattle.free_number.proofs.map as free_number-map
 use Rattle.free_number.proofs.answer as free_number-answer
+use Rattle.master.specs.Demand.{Master}
+use Rattle.master.proofs as master
 use Rattle.demands.specs.Calls as calls
 use Rattle.demands.specs.Run.{System}
 
@@ -143,3 +145,14 @@ pub record RealMap (k : Keeper) : Type 2 where
   -- the number of a refusal, by which the demands tell 7 from 9
   pub number-asks : AsksNothing free_number-answer.Refusal.number.Kinds.ps free_number-answer.Refusal.number.Reads.Asked
   pub map-number : Gives free_number-answer.Refusal.number.Kinds.ps free_number-answer.Refusal.number.Kinds.r free_number-answer.Refusal.number.Reads.Post (λ κs a. free.refusalOf (a .0))
+
+-- The master that a program calls is the one that the demands on it are proved of (the crate master, Demand).
+pub record RealMaster (m : Master) : Type 0 where
+  -- any fields may be built of, and any bytes read as the reply to any question
+  pub build-asks : AsksNothing master.build.Kinds.ps master.build.Reads.Asked
+  pub read-asks : AsksNothing master.read.Kinds.ps master.read.Reads.Asked
+  pub number-asks : AsksNothing master.Refusal.number.Kinds.ps master.Refusal.number.Reads.Asked
+  pub build : Gives master.build.Kinds.ps master.build.Kinds.r master.build.Reads.Post (λ κs a. m .build (a .0))
+  pub read : Gives master.read.Kinds.ps master.read.Kinds.r master.read.Reads.Post (λ κs a. m .read (a .0) (now (a .1 .0)))
+  -- the number of its one refusal
+  pub master-number : Gives master.Refusal.number.Kinds.ps master.Refusal.number.Kinds.r master.Refusal.number.Reads.Post (λ κs a. 10)

@@ -6,7 +6,7 @@ use mathlib.Core.Bool.{true}
 use mathlib.Core.List.{List, [], _∷_}
 use lib.IntN.{pos, negsuc}
 use Rattle.script.specs.declared.Command.{Command}
-use Rattle.script.specs.declared.Command.the-variants.{Blank, Malformed, Grow, Send, Tick, Measure, Keys, Power, Space, Xor}
+use Rattle.script.specs.declared.Command.the-variants.{Blank, Malformed, Grow, Send, Tick, Measure, Keys, Power, Space, Xor, Ask}
 use Rattle.script.specs.declared.arguments.Last.the-variants.{Nothing, PerhapsBytes}
 use Rattle.text.specs.Text.{text}
 use Rattle.text.specs.Lines.{bareOf}
@@ -69,6 +69,18 @@ cases =
     ∷ "xor" says Malformed
     ∷ "xor 0 0" says Malformed
     ∷ "XOR 0" says Malformed
+    ∷ "ask 0 1 31 32 2 90" says Ask 0 1 31 32 2 90
+    ∷ "ask 4294967295 255 255 255 65535 4294967295" says Ask 4294967295 255 255 255 65535 4294967295
+    ∷ "ask 4294967296 0 0 0 0 0" says Malformed
+    ∷ "ask 0 256 0 0 0 0" says Malformed
+    ∷ "ask 0 0 256 0 0 0" says Malformed
+    ∷ "ask 0 0 0 256 0 0" says Malformed
+    ∷ "ask 0 0 0 0 65536 0" says Malformed
+    ∷ "ask 0 0 0 0 0 4294967296" says Malformed
+    ∷ "ask 0 0 0 0 0 -1" says Malformed
+    ∷ "ask 0 0 0 0 0" says Malformed
+    ∷ "ask 0 0 0 0 0 0 0" says Malformed
+    ∷ "Ask 0 0 0 0 0 0" says Malformed
     ∷ "  # note" says Blank
     ∷ "\r" says Blank
     ∷ "" says Blank
@@ -76,7 +88,7 @@ cases =
 
 hold : Hold cases
 unfolding wordsOf bareOf sameOf numberOf signedOf hexOf countOf lastOf argumentsOf nameOf orderOf commandOf spokenOf meaningOf
-hold = (refl, (refl, (refl, (refl, (refl, (refl, (refl, (refl, (refl, (refl, (refl, (refl, (refl, (refl, (refl, (refl, (refl, (refl, (refl, (refl, (refl, (refl, (refl, (refl, (refl, (refl, (refl, (refl, (refl, (refl, (refl, (refl, (refl, (refl, (refl, (refl, (refl, (refl, (refl, (refl, (refl, (refl, tt))))))))))))))))))))))))))))))))))))))))))
+hold = (refl, (refl, (refl, (refl, (refl, (refl, (refl, (refl, (refl, (refl, (refl, (refl, (refl, (refl, (refl, (refl, (refl, (refl, (refl, (refl, (refl, (refl, (refl, (refl, (refl, (refl, (refl, (refl, (refl, (refl, (refl, (refl, (refl, (refl, (refl, (refl, (refl, (refl, (refl, (refl, (refl, (refl, (refl, (refl, (refl, (refl, (refl, (refl, (refl, (refl, (refl, (refl, (refl, (refl, tt))))))))))))))))))))))))))))))))))))))))))))))))))))))
 
 -- bytes that may be left out
 left-out : argumentsOf (takesOf (9 ∷ []) PerhapsBytes) (wordsOf (text "7")) ≡ givenOf true (7 ∷ 0 ∷ 0 ∷ 0 ∷ 0 ∷ 0 ∷ []) (pos 0) 0 0

@@ -1,5 +1,5 @@
--- What a `Send` and a `Space` tell of the words that they came from, and that a line too long is none: a property that holds of every way to
--- a command is followed down the definition.
+-- What a `Send`, a `Space` and an `Ask` tell of the words that they came from, and that a line too long is none: a property that holds of every
+-- way to a command is followed down the definition.
 -- Assumes nothing.
 use Prim.Native.Nat.{ℕ, suc, _<_, _≤_}
 use native.Mathlib.Omega.{arith}
@@ -21,8 +21,8 @@ use Rattle.script.specs.declared.arguments.Last.the-variants as last
 use Rattle.text.specs.Lines.{bareOf}
 use Rattle.script.specs.Words.{Word, wordsOf}
 use Rattle.text.specs.Numbers.{numberOf, countOf}
-use Rattle.script.specs.Arguments.{noNumbers, givenOf, unfitOf, ifNumber, ifSome, lastOf, argumentsOf}
-use Rattle.script.specs.Meaning.{whole, largestSpace, longest, rowOf, ifFit, isNote, nameOf, orderOf, commandOf, spokenOf, meaningOf}
+use Rattle.script.specs.Arguments.{noNumbers, givenOf, unfitOf, ifNumber, ifSome, lastOf, argumentsFrom, argumentsOf}
+use Rattle.script.specs.Meaning.{whole, byte, half, largestSpace, longest, rowOf, ifFit, isNote, nameOf, orderOf, commandOf, spokenOf, meaningOf}
 use Rattle.text.proofs.Spelled.{number-within}
 use Rattle.text.proofs.Bare.{bare-long}
 
@@ -38,6 +38,13 @@ pub record Sending (ws : List Word) (time from count : ℕ) : Type 0 where
   pub counts : countOf (third .chars) ≡ count
   pub some : count ≡ 0 → ⊥
 
+-- numbers that the fields of a telegram can hold
+pub record Asking (c n p w : ℕ) : Type 0 where
+  pub command : c ≤ byte
+  pub node : n ≤ byte
+  pub parameter : p ≤ byte
+  pub word : w ≤ half
+
 -- what is to hold of a command that came from the words `ws`
 abbrev Told : List Word → Command → Type 0
 Told ws command.Blank = Unit {0}
@@ -50,6 +57,7 @@ Told ws (command.Keys h s) = Unit {0}
 Told ws (command.Power h) = Unit {0}
 Told ws (command.Space n) = n ≤ largestSpace
 Told ws (command.Xor h) = Unit {0}
+Told ws (command.Ask t c n p w d) = Asking c n p w
 
 of-test : (from : List Word) (b : Bool) (c d : Command) → Told from c → Told from d → Told from (cond b c d)
 of-test from true c d p q = p
@@ -89,16 +97,42 @@ told-send w (a ∷ ws) e = read (numberOf whole (a .chars)) refl ws
         record { first = w; second = a; third = b; words = refl; called = e; timed = k; starts = refl; counts = refl; some = z })
     read (number.Is t) k (b ∷ c ∷ ws) = tt
 
-told-space : (w : Word) (ws : List Word) → Told (w ∷ ws) (orderOf name.Space ws)
-unfolding orderOf argumentsOf lastOf
-told-space w [] = tt
-told-space w (a ∷ ws) = read (numberOf largestSpace (a .chars)) refl ws
+-- the next number, and what comes after it
+of-next : (from : List Word) (n : Name) (i limit : ℕ) (numbers limits : List ℕ) (ws : List Word)
+    → ((k : ℕ) → k ≤ limit → (vs : List Word) → Told from (order n (argumentsFrom (suc i) (set numbers i k) limits last.Nothing vs)))
+    → Told from (order n (argumentsFrom i numbers (limit ∷ limits) last.Nothing ws))
+of-next from n i limit numbers limits [] h = tt
+of-next from n i limit numbers limits (w ∷ ws) h = read (numberOf limit (w .chars)) refl
   where
-    read : (r : Number) → numberOf largestSpace (a .chars) ≡ r → (ws : List Word)
-        → Told (w ∷ a ∷ ws) (order name.Space (ifNumber r (λ (n : ℕ). lastOf last.Nothing (alone n) ws)))
-    read number.Unfit k ws = tt
-    read (number.Is n) k [] = number-within largestSpace (a .chars) k
-    read (number.Is n) k (b ∷ ws) = tt
+    read : (r : Number) → numberOf limit (w .chars) ≡ r
+        → Told from (order n (ifNumber r (λ (k : ℕ). argumentsFrom (suc i) (set numbers i k) limits last.Nothing ws)))
+    read number.Unfit e = tt
+    read (number.Is k) e = h k (number-within limit (w .chars) e) ws
+
+-- a property of any numbers, each up to its limit and in its place: number `i` and those that follow
+abbrev Any : (List ℕ → Type 0) → ℕ → List ℕ → List ℕ → Type 0
+Any P i numbers [] = P numbers
+Any P i numbers (limit ∷ limits) = (k : ℕ) → k ≤ limit → Any P (suc i) (set numbers i k) limits
+
+-- a command that takes numbers and nothing else: it holds of what it makes of any of them
+of-numbers : (from : List Word) (n : Name) (i : ℕ) (numbers limits : List ℕ) (ws : List Word)
+    → Any (λ (ns : List ℕ). Told from (rowOf n .made (givenOf true ns (pos 0) 0 0))) i numbers limits
+    → Told from (order n (argumentsFrom i numbers limits last.Nothing ws))
+unfolding lastOf
+of-numbers from n i numbers [] [] h = h
+of-numbers from n i numbers [] (w ∷ ws) h = tt
+of-numbers from n i numbers (limit ∷ limits) ws h =
+    of-next from n i limit numbers limits ws (λ k b vs. of-numbers from n (suc i) (set numbers i k) limits vs (h k b))
+
+told-space : (w : Word) (ws : List Word) → Told (w ∷ ws) (orderOf name.Space ws)
+unfolding orderOf argumentsOf
+told-space w ws = of-numbers (w ∷ ws) name.Space 0 noNumbers (largestSpace ∷ []) ws (λ n within. within)
+
+told-ask : (w : Word) (ws : List Word) → Told (w ∷ ws) (orderOf name.Ask ws)
+unfolding orderOf argumentsOf
+told-ask w ws =
+    of-numbers (w ∷ ws) name.Ask 0 noNumbers (whole ∷ byte ∷ byte ∷ byte ∷ half ∷ whole ∷ []) ws
+    (λ _ _ _ command _ node _ parameter _ word _ _. record { command = command; node = node; parameter = parameter; word = word })
 
 told-order : (w : Word) (ws : List Word) (n : Name) → nameOf (w .chars) ≡ n → Told (w ∷ ws) (orderOf n ws)
 unfolding orderOf
@@ -111,6 +145,7 @@ told-order w ws name.Keys e = of-fit (w ∷ ws) (argumentsOf (rowOf name.Keys .t
 told-order w ws name.Power e = of-fit (w ∷ ws) (argumentsOf (rowOf name.Power .takes) ws) _ tt
 told-order w ws name.Space e = told-space w ws
 told-order w ws name.Xor e = of-fit (w ∷ ws) (argumentsOf (rowOf name.Xor .takes) ws) _ tt
+told-order w ws name.Ask e = told-ask w ws
 
 told-command : (ws : List Word) → Told ws (commandOf ws)
 unfolding commandOf
@@ -130,6 +165,10 @@ sending line e = subst (Told (wordsOf (bareOf line))) e (told line)
 -- a `Space` is no more than 64
 pub space-within : (line : List ℕ) {size : ℕ} → meaningOf line ≡ command.Space size → size ≤ largestSpace
 space-within line e = subst (Told (wordsOf (bareOf line))) e (told line)
+
+-- the numbers of an `Ask` fit a telegram
+pub asking : (line : List ℕ) {t c n p w d : ℕ} → meaningOf line ≡ command.Ask t c n p w d → Asking c n p w
+asking line e = subst (Told (wordsOf (bareOf line))) e (told line)
 
 -- a line of more than 4,097 bytes is none, whatever stands in it: no reader needs more of it to know
 pub too-long : (line : List ℕ) → suc longest < length line → meaningOf line ≡ command.Malformed

@@ -25,6 +25,13 @@ use Rattle.script.specs.Arguments.{takesOf, argumentsOf}
 abbrev pub whole : ℕ
 whole = 4294967295
 
+-- the largest number of 8 bits, and of 16
+abbrev pub byte : ℕ
+byte = 255
+
+abbrev pub half : ℕ
+half = 65535
+
 -- the most reply space
 abbrev pub largestSpace : ℕ
 largestSpace = 64
@@ -40,7 +47,7 @@ abbrev row : String → List ℕ → Last → (Arguments → Command) → Row
 row word limits after made = record { word = word; takes = takesOf limits after; made = made }
 
 -- any other word, which makes no command, then head NODE, send TIME HEX, tick TIME, measure HEAD VALUE, keys HEAD STATE, power HEAD, space SIZE,
--- xor HEAD
+-- xor HEAD, ask TIME COMMAND NODE PARAMETER WORD DATA
 abbrev pub rowOf : Name → Row
 rowOf name.Other = row "" [] last.Nothing (λ a. command.Malformed)
 rowOf name.Head = row "head" (whole ∷ []) last.Nothing (λ a. command.Grow (a .first))
@@ -51,10 +58,13 @@ rowOf name.Keys = row "keys" (whole ∷ whole ∷ []) last.Nothing (λ a. comman
 rowOf name.Power = row "power" (whole ∷ []) last.Nothing (λ a. command.Power (a .first))
 rowOf name.Space = row "space" (largestSpace ∷ []) last.Nothing (λ a. command.Space (a .first))
 rowOf name.Xor = row "xor" (whole ∷ []) last.Nothing (λ a. command.Xor (a .first))
+rowOf name.Ask =
+    row "ask" (whole ∷ byte ∷ byte ∷ byte ∷ half ∷ whole ∷ []) last.Nothing
+    (λ a. command.Ask (a .first) (a .second) (a .third) (a .fourth) (a .fifth) (a .sixth))
 
 -- the command whose word it is, in lower case; of the names gone through, `found` is the one so far
 abbrev pub names : List Name
-names = name.Head ∷ name.Send ∷ name.Tick ∷ name.Measure ∷ name.Keys ∷ name.Power ∷ name.Space ∷ name.Xor ∷ []
+names = name.Head ∷ name.Send ∷ name.Tick ∷ name.Measure ∷ name.Keys ∷ name.Power ∷ name.Space ∷ name.Xor ∷ name.Ask ∷ []
 
 abbrev nameIn : Name → List Name → List ℕ → Name
 nameIn found [] w = found

@@ -16,6 +16,11 @@ ghost use Rattle.script.specs.Meaning.{nameOf, rowOf, orderOf, spokenOf,
 // The largest number of 32 bits.
 const WHOLE: u32 = 4_294_967_295;
 
+// The largest number of 8 bits, and of 16.
+const BYTE: u32 = 255;
+
+const HALF: u32 = 65_535;
+
 // The most reply space.
 const LARGEST_SPACE: u32 = 64;
 
@@ -45,6 +50,14 @@ pub enum Command {
     Power(u32),
     Space(usize),
     Xor(u32),
+    Ask {
+        time: u32,
+        command: u32,
+        node: u32,
+        parameter: u32,
+        word: u32,
+        data: u32,
+    },
 }
 
 // The command word, or any other.
@@ -58,6 +71,7 @@ enum Name {
     Power,
     Space,
     Xor,
+    Ask,
 }
 
 // What a line without its newline means. One of more than 4,097 bytes is malformed whatever it holds, so that its first 4,098 bytes do for it.
@@ -120,7 +134,8 @@ fn named(word: &[u8]) -> Name
     let keys = called(word, b"keys", Name::Keys, measure);
     let power = called(word, b"power", Name::Power, keys);
     let space = called(word, b"space", Name::Space, power);
-    called(word, b"xor", Name::Xor, space)
+    let xor = called(word, b"xor", Name::Xor, space);
+    called(word, b"ask", Name::Ask, xor)
 }
 
 // The command of that name with the words from the place `from` on.
@@ -149,6 +164,7 @@ fn takes(name: Name) -> Takes
         Name::Power => Takes([WHOLE, 0, 0, 0, 0, 0], 1, Last::Nothing),
         Name::Space => Takes([LARGEST_SPACE, 0, 0, 0, 0, 0], 1, Last::Nothing),
         Name::Xor => Takes([WHOLE, 0, 0, 0, 0, 0], 1, Last::Nothing),
+        Name::Ask => Takes([WHOLE, BYTE, BYTE, BYTE, HALF, WHOLE], 6, Last::Nothing),
     }
 }
 
@@ -176,5 +192,13 @@ fn made(name: Name, a: Arguments) -> Command
         Name::Power => Command::Power(a.first),
         Name::Space => Command::Space(a.first as usize),
         Name::Xor => Command::Xor(a.first),
+        Name::Ask => Command::Ask {
+            time: a.first,
+            command: a.second,
+            node: a.third,
+            parameter: a.fourth,
+            word: a.fifth,
+            data: a.sixth,
+        },
     }
 }

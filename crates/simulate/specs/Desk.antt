@@ -1,19 +1,23 @@
 -- What a command does to the desk: each line of a script makes just the calls that its meaning names.
 -- Assumes nothing.
-use Prim.Native.Nat.{ℕ, zero, suc, min}
+use Prim.Native.Nat.{ℕ, min}
 use Prim.Native.Char.{code}
-use mathlib.Core.Bool.{cond}
 use mathlib.Core.List.{List, [], _∷_, _++_}
-use lib.Dec.{ltb}
-use lib.ListN.{length, take, replicate}
+use lib.ListN.{getD}
 use Rattle.hex.specs.Digits.{digitsOf}
+use Rattle.wire.specs.declared.telegram.Telegram.{Telegram}
+use Rattle.master.specs.declared.Answer.{Answer}
+use Rattle.master.specs.declared.Answer.the-variants as answer
+use Rattle.master.specs.Master.{builtOf}
 use Rattle.line.specs.declared.calls.Line.{Line}
 use Rattle.line.specs.declared.calls.Called.{Called}
-use Rattle.line.specs.Calls.{emptyOf, growOf, byteOf, tickOf, measureOf, keysOf, powerOf}
+use Rattle.line.specs.Calls.{emptyOf, growOf, tickOf, measureOf, keysOf, powerOf}
 use Rattle.script.specs.declared.Command.{Command}
 use Rattle.script.specs.declared.Command.the-variants as command
 use Rattle.script.specs.Meaning.{meaningOf, byteAtOf, largestSpace}
 use Rattle.simulate.specs.declared.desk.Desk.{Desk}
+use Rattle.simulate.specs.Ask.{questionOf}
+use Rattle.simulate.specs.Feeding.{fedOf}
 
 -- no head, and space for one reply
 unfoldable pub deskOf : Desk
@@ -23,31 +27,34 @@ deskOf = record { line = emptyOf; space = 10 }
 unfoldable pub hitLineOf : ℕ → List ℕ
 hitLineOf x = code "x" ∷ code "o" ∷ code "r" ∷ code " " ∷ (digitsOf (x ∷ []) ++ (code "\n" ∷ []))
 
--- the reply at the start of the space, after a blank; only blanks where there is no room for a reply
-unfoldable pub wordOf : List ℕ → List ℕ
-wordOf space = cond (ltb (length space) 10) (replicate 21 (code " ")) (code " " ∷ digitsOf (take 10 space))
-
--- the line after a call; the space stays
-abbrev pub calledOf : Desk → Called → Desk
-calledOf d c = record { line = c .line; space = d .space }
-
--- the line after the first n bytes of a send, each at the same time and with the same room for a reply
-abbrev pub sentOf : List ℕ → ℕ → ℕ → ℕ → Line → ℕ → Line
-sentOf text time from room l zero = l
-sentOf text time from room l (suc n) = byteOf (sentOf text time from room l n) (byteAtOf text from n) time room .line
-
 -- there never is more space than the most
 abbrev pub roomOf : ℕ → ℕ
 roomOf size = min size largestSpace
 
--- all bytes of a send
-unfoldable pub sendOf : Desk → List ℕ → ℕ → ℕ → ℕ → Desk
-sendOf d text time from count =
-    record { line = sentOf text time from (roomOf (d .space)) (d .line) count; space = d .space }
+-- the line that is left; the space stays
+abbrev pub leftOf : Desk → Line → Desk
+leftOf d l = record { line = l; space = d .space }
 
--- a key state, with the room that a byte has
+-- the line after a call, and after a key state with the room that there is
+abbrev pub calledOf : Desk → Called → Desk
+calledOf d c = leftOf d (c .line)
+
 abbrev pub pressedOf : Desk → ℕ → ℕ → Desk
-pressedOf d at state = record { line = keysOf (d .line) at state (roomOf (d .space)) .line; space = d .space }
+pressedOf d at state = leftOf d (keysOf (d .line) at state (roomOf (d .space)) .line)
+
+-- the desk after so many bytes, with the room that there is
+unfoldable pub feedOf : Desk → (ℕ → ℕ) → ℕ → ℕ → Desk
+feedOf d nth time count = leftOf d (fedOf nth time (roomOf (d .space)) (d .line) count)
+
+-- a question: the ten bytes of its telegram; where none is built nothing changes
+abbrev pub ifBuilt : Answer → Desk → Desk → Desk
+ifBuilt answer.Done fed d = fed
+ifBuilt (answer.Refused why) fed d = d
+
+unfoldable pub askedOf : Desk → ℕ → Telegram → Desk
+askedOf d time question =
+    let b = builtOf question in
+    ifBuilt (b .answer) (feedOf d (λ (i : ℕ). getD (b .ten) i 0) time 10) d
 
 -- other space
 abbrev pub spacedOf : Desk → ℕ → Desk
@@ -58,13 +65,14 @@ abbrev pub didOf : Command → List ℕ → Desk → Desk
 didOf command.Blank text d = d
 didOf command.Malformed text d = d
 didOf (command.Grow node) text d = calledOf d (growOf (d .line) node)
-didOf (command.Send time from count) text d = sendOf d text time from count
+didOf (command.Send time from count) text d = feedOf d (byteAtOf text from) time count
 didOf (command.Tick time) text d = calledOf d (tickOf (d .line) time)
 didOf (command.Measure at value) text d = calledOf d (measureOf (d .line) at value)
 didOf (command.Keys at state) text d = pressedOf d at state
 didOf (command.Power at) text d = calledOf d (powerOf (d .line) at)
 didOf (command.Space size) text d = spacedOf d size
 didOf (command.Xor at) text d = d
+didOf (command.Ask time command node parameter word value) text d = askedOf d time (questionOf command node parameter word value)
 
 unfoldable pub obeyedOf : Desk → List ℕ → Desk
 obeyedOf d text = didOf (meaningOf text) text d

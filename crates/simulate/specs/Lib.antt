@@ -1,2 +1,4 @@
+pub mod Ask
+pub mod Feeding
 pub mod Desk
 pub mod Reading

@@ -1,19 +1,20 @@
 // A command on the desk: what it calls, and what is written for it.
 use crate::answer;
-use crate::answer::Answering;
+use crate::ask;
+use crate::feeding;
+use crate::feeding::Purpose;
 use head::calls::Answer;
 use head::calls::Heard;
 use head::calls::Hit;
-use head::refusal::Refusal;
-use libc::STDOUT_FILENO;
 use line::calls;
 use line::calls::Called;
 use line::calls::Line;
 use script::Command;
+use wire::telegram::Telegram;
 ghost use mathlib.Core.Path.{_≡_};
 ghost use Prim.Native.Nat.{_≤_};
-ghost use lib.ListN.{length};
-ghost use Rattle.simulate.specs.Desk.{deskOf, hitLineOf, wordOf, sentOf, roomOf, sendOf, calledOf, pressedOf, spacedOf, obeyedOf};
+ghost use Rattle.simulate.specs.Feeding.{nthOf};
+ghost use Rattle.simulate.specs.Desk.{deskOf, hitLineOf, roomOf, feedOf, askedOf, calledOf, pressedOf, spacedOf, obeyedOf};
 
 // The line, and how much reply space its byte and key calls lend.
 pub(crate) struct Desk {
@@ -27,12 +28,6 @@ pub(crate) struct Obeyed {
     pub written: bool,
 }
 
-// The line after the bytes of a send, and what they drew.
-struct Sent {
-    line: Line,
-    answering: Answering,
-}
-
 // An empty line, and space for one reply.
 pub(crate) fn bare() -> Desk
     ensures { λ r. ⌜ r ≡ deskOf ⌝ }
@@ -43,24 +38,10 @@ pub(crate) fn bare() -> Desk
     }
 }
 
-fn write_number(n: u64) -> bool {
-    io::print_decimal(STDOUT_FILENO, n)
-}
-
-fn write_refusal(why: Refusal) -> bool {
-    let label = answer::write(b"refused ");
-    write_number(why.number() as u64) & label
-}
-
-fn write_refused(why: Refusal) -> bool {
-    let text = write_refusal(why);
-    answer::write(b"\n") & text
-}
-
 fn write_answer(a: Answer) -> bool {
     match a {
         Answer::Done => answer::write(b"ok\n"),
-        Answer::Refused(why) => write_refused(why),
+        Answer::Refused(why) => answer::write_refused(why.number()),
     }
 }
 
@@ -80,100 +61,14 @@ fn write_hit(hit: Hit) -> bool {
             let text = hit_line(x);
             answer::write(&text)
         }
-        Hit::Refused(why) => write_refused(why),
+        Hit::Refused(why) => answer::write_refused(why.number()),
     }
 }
 
 fn write_error(number: u64) -> bool {
     let label = answer::write(b"error at line ");
-    let text = write_number(number) & label;
+    let text = answer::write_number(number) & label;
     answer::write(b"\n") & text
-}
-
-// The reply at the start of the space, after a blank.
-fn word(space: &[u8]) -> [u8; 21]
-    ensures { λ r. ⌜ r ≡ wordOf (now (space .entry)) ⌝ }
-{
-    let mut text = [b' '; 21];
-    if space.len() < 10 {
-        return text;
-    }
-    hex::spell(&space[..10], &mut text[1..21]);
-    text
-}
-
-fn put_replies(out: &mut [u8], a: Answering, n: usize, space: &[u8]) -> Answering {
-    if n == 0 {
-        return a;
-    }
-    if n == 1 {
-        let text = word(space);
-        return answer::put(out, a, &text);
-    }
-    let before = answer::flush(out, a);
-    let label = answer::write(b" collision ") & before;
-    Answering {
-        kept: 0,
-        written: write_number(n as u64) & label,
-    }
-}
-
-// What a byte of a send drew. The first says whether the bytes are refused or fed; a refusal is that of all of them.
-fn put_heard(
-    out: &mut [u8],
-    a: Answering,
-    is_first: bool,
-    heard: Heard,
-    space: &[u8],
-) -> Answering {
-    match heard {
-        Heard::Replies(n) => {
-            if is_first {
-                let fed = answer::put(out, a, b"sent");
-                return put_replies(out, fed, n, space);
-            }
-            put_replies(out, a, n, space)
-        }
-        Heard::Refused(why) => {
-            if is_first {
-                return Answering {
-                    kept: 0,
-                    written: write_refusal(why) & a.written,
-                };
-            }
-            a
-        }
-    }
-}
-
-fn send_all(
-    line: Line,
-    text: &[u8],
-    time: u32,
-    from: usize,
-    count: usize,
-    space: &mut [u8],
-    out: &mut [u8],
-) -> Sent
-    ensures { λ r. ⌜ r .line ≡ sentOf (now (text .entry)) time from (length (now (space .entry))) line count ⌝ }
-{
-    let mut l = line;
-    let mut a = Answering {
-        kept: 0,
-        written: true,
-    };
-    let mut i: usize = 0;
-    while i < count {
-        let f = calls::byte(l, script::byte_at(text, from, i), time, space);
-        l = f.line;
-        let heard = f.heard;
-        a = put_heard(out, a, i == 0, heard, space);
-        i += 1;
-    }
-    Sent {
-        line: l,
-        answering: a,
-    }
 }
 
 // There never is more space than 64 bytes.
@@ -184,17 +79,18 @@ fn room(size: usize) -> usize
     if size < 64 { size } else { 64 }
 }
 
-fn send(d: Desk, text: &[u8], time: u32, from: usize, count: usize) -> Obeyed
-    ensures { λ r. ⌜ r .desk ≡ sendOf d (now (text .entry)) time from count ⌝ }
+// Bytes, fed one after another and answered in one line of output.
+fn feed(d: Desk, purpose: Purpose, text: &[u8], time: u32, count: usize) -> Obeyed
+    ensures { λ r. ⌜ r .desk ≡ feedOf d (nthOf purpose (now (text .entry))) time count ⌝ }
 {
     let mut space = [0u8; 64];
     let size = room(d.space);
     let mut out = [0u8; 2048];
-    let s = send_all(
+    let s = feeding::feed_all(
         d.line,
+        purpose,
         text,
         time,
-        from,
         count,
         &mut space[..size],
         &mut out,
@@ -208,6 +104,22 @@ fn send(d: Desk, text: &[u8], time: u32, from: usize, count: usize) -> Obeyed
     Obeyed {
         desk: desk,
         written: answer::flush(&out, a),
+    }
+}
+
+// A question: the ten bytes of its telegram. Where the master builds none, none is fed.
+fn asked(d: Desk, time: u32, question: Telegram) -> Obeyed
+    ensures { λ r. ⌜ r .desk ≡ askedOf d time question ⌝ }
+{
+    let built = master::build(question);
+    let ten = built.ten;
+    let answer = built.answer;
+    match answer {
+        master::Answer::Done => feed(d, Purpose::Ask(question), &ten, time, 10),
+        master::Answer::Refused(why) => Obeyed {
+            desk: d,
+            written: answer::write_refused(why.number()),
+        },
     }
 }
 
@@ -234,11 +146,11 @@ fn write_pressed(heard: Heard, space: &[u8; 64]) -> bool {
                 return write_answer(Answer::Done);
             }
             let label = answer::write(b"ok");
-            let text = word(space);
+            let text = feeding::word(space);
             let reply = answer::write(&text) & label;
             answer::write(b"\n") & reply
         }
-        Heard::Refused(why) => write_refused(why),
+        Heard::Refused(why) => answer::write_refused(why.number()),
     }
 }
 
@@ -286,7 +198,7 @@ pub(crate) fn obey(d: Desk, text: &[u8], number: u64) -> Obeyed
             written: write_error(number),
         },
         Command::Grow(node) => done(d, calls::grow(d.line, node)),
-        Command::Send { time, from, count } => send(d, text, time, from, count),
+        Command::Send { time, from, count } => feed(d, Purpose::Send(from), text, time, count),
         Command::Tick(time) => done(d, calls::tick(d.line, time)),
         Command::Measure { head, value } => done(d, calls::measure(d.line, head as usize, value)),
         Command::Keys { head, state } => press(d, head as usize, state),
@@ -296,5 +208,13 @@ pub(crate) fn obey(d: Desk, text: &[u8], number: u64) -> Obeyed
             desk: d,
             written: write_hit(calls::last_hit(d.line, head as usize)),
         },
+        Command::Ask {
+            time,
+            command,
+            node,
+            parameter,
+            word,
+            data,
+        } => asked(d, time, ask::question(command, node, parameter, word, data)),
     }
 }

@@ -37,6 +37,12 @@ impl Desk {
         answer.strip_prefix("sent").expect("the bytes are fed").trim_start().to_string()
     }
 
+    /// What a question prints after 'asked'; its fields are COMMAND, NODE, PARAMETER, WORD and DATA.
+    pub fn ask(&mut self, fields: &str) -> String {
+        let answer = self.line(&format!("ask {} {fields}", self.time));
+        answer.strip_prefix("asked").expect("the question is fed").trim_start().to_string()
+    }
+
     /// What a sound telegram draws.
     pub fn telegram(&mut self, command: u8, node: u8, parameter: u8, control_word: u16, data: i64) -> String {
         self.send(&hex(&Telegram::new(command, node, parameter, control_word, data as u32).bytes()))

@@ -8,7 +8,8 @@ use Rattle.script.proofs.named.Tie as tie
 returns : tie.Need-returns
 unfolding nameOf
 returns c =
-    let space = c .before .before in
+    let xor = c .before .before in
+    let space = xor .before .before in
     let power = space .before .before in
     let keys = power .before .before in
     let measure = keys .before .before in
@@ -16,7 +17,8 @@ returns c =
     let send = tick .before .before in
     let head = send .before .before in
     simp (
-      c .called8 .ensures,
+      c .called9 .ensures,
+      xor .called8 .ensures,
       space .called7 .ensures,
       power .called6 .ensures,
       keys .called5 .ensures,
@@ -30,6 +32,8 @@ pub named-spec : {M : Type 1} → statement M
 named-spec =
     tie.close
     (tie.spec
+    (λ c. search needs)
+    (λ c κs. search needs)
     (λ c. search needs)
     (λ c κs. search needs)
     (λ c. search needs)

@@ -1,6 +1,7 @@
 //! Makes random scripts. The reference itself runs along, so that telegrams can be meant for the numbers in
 //! force, set points for the places where the windows end, and ticks for the moments when a timeout is due.
 
+mod ask;
 mod auto_id;
 mod status_word;
 
@@ -17,15 +18,16 @@ pub const LINES: usize = 300;
 
 /// Of a hundred steps, in one script after the other: every adoption is a restart, and without some calm heads
 /// have no past to show.
-const AUTO_ID_STEPS: [u32; 4] = [14, 0, 8, 4];
+const AUTO_ID_STEPS: [u32; 4] = [16, 0, 10, 5];
 
 /// Of a hundred of the other steps, likewise.
-const STATUS_WORD_STEPS: [u32; 4] = [3, 10, 6, 7];
+const STATUS_WORD_STEPS: [u32; 4] = [4, 13, 8, 9];
 
 /// Unknown words, missing and extra words, numbers that do not fit, hex digits that are none.
 const LINES_THAT_ARE_NONE: &str = "heads 1|HEAD 1|Send 0 00|head|head 1 2|head -1|head +1|head 1F|head 0x1F|\
     head 4294967296|head 42949672960|head 18446744073709551617|head 1#|send|send 0|send 0 0|send 0 001F2|\
-    send 0 0G|send 0 00 00|send 0 0x00|send 4294967296 00|send -1 00|tick|tick 1 2|tick 4294967296|tick -0|\
+    send 0 0G|send 0 00 00|send 0 0x00|send 4294967296 00|send -1 00|ask|ask 0|ASK 0 0 31 32 0 0|\
+    asks 0 0 31 32 0 0|ask0 0 0 31 32 0 0|ask 0 0 31 32 0 0#|tick|tick 1 2|tick 4294967296|tick -0|\
     measure 0|measure 0 1 2|measure 0 2147483648|measure 0 -2147483649|measure 0 -|measure 0 --1|\
     measure 0 +1|measure -0 1|keys 0|keys 0 -1|keys 0 4 10|power|power 0 0|xor|xor 0 0|xor 0 1|\
     xor -1|xor -0|xor +0|xor x|xor 1F|xor 0x0|xor 0#|xor 4294967296|xor 18446744073709551616|XOR 0|xors 0|\
@@ -71,6 +73,9 @@ impl Generator {
         while self.random.chance(15) {
             self.step();
         }
+        if self.random.chance(30) {
+            self.ask_before_any_head();
+        }
         let heads = self.random.pick(&[1, 1, 1, 2, 2, 2, 3, 3, 4, 8]);
         let are_as_delivered = self.random.chance(20);
         for _ in 0..heads {
@@ -95,7 +100,8 @@ impl Generator {
             return self.status_word();
         }
         match self.random.below(100) {
-            0..=48 => self.send_telegrams(),
+            0..=36 => self.send_telegrams(),
+            37..=48 => self.ask(),
             49..=54 => self.send_split(),
             55..=57 => self.send_damaged(),
             58..=59 => self.send_stray_bytes(),
@@ -190,11 +196,18 @@ impl Generator {
         }
     }
 
+    fn send(&mut self, bytes: &[u8]) {
+        match self.asked_instead(bytes) {
+            Some(question) => self.write_ask(&question),
+            None => self.feed(format!("send {} {}", self.now, hex(bytes))),
+        }
+    }
+
     /// What damaged telegrams and restarts leave in a head shows only if it is asked for before the next one;
     /// that nothing else changes it, only if it is asked for after other sends too.
-    fn send(&mut self, bytes: &[u8]) {
+    fn feed(&mut self, line: String) {
         let bits_before = self.bits_hit();
-        self.write_line(format!("send {} {}", self.now, hex(bytes)));
+        self.write_line(line);
         let percent = if self.bits_hit() == bits_before { 7 } else { 50 };
         if self.random.chance(percent) {
             self.xor();
@@ -419,6 +432,8 @@ impl Generator {
         let heads = self.model.line().heads();
         let node = match (heads.last().map(Head::number_in_force), self.random.below(10)) {
             (Some(number), 0) => u32::from(number),
+            // One bit otherwise.
+            (Some(number), 1) => u32::from(number ^ 1 << self.random.below(7)).max(1),
             (_, 1..=3) => self.random.pick(&[1, 2, 12, 31, 127]),
             _ => 1 + self.random.below(127),
         };
@@ -430,11 +445,13 @@ impl Generator {
         self.write_line(format!("space {size}"));
     }
 
-    /// Mostly its end, so that heads are heard again; before it keys, which are refused as bytes are.
+    /// Mostly its end, so that heads are heard again; before it keys and questions, which are refused as bytes
+    /// are.
     fn in_short_space(&mut self) {
         match self.random.below(10) {
             0..=1 => self.keys(),
             2 => self.refused(),
+            3 => self.ask_one(),
             _ => self.write_line("space 10".to_string()),
         }
     }
@@ -497,10 +514,11 @@ impl Generator {
     }
 
     fn odd_bytes(&mut self) {
-        let mut line = match self.random.below(4) {
+        let mut line = match self.random.below(5) {
             0 => Vec::new(),
             1 => b"head 1".to_vec(),
             2 => b"xor 0".to_vec(),
+            3 => format!("ask {} 0 31 32 0 0", self.now).into_bytes(),
             _ => format!("send {} 00", self.now).into_bytes(),
         };
         for _ in 0..self.random.below(6) {

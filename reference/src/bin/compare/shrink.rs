@@ -1,6 +1,7 @@
 //! Makes a script or an order form that shows a difference as short as possible.
 
 use crate::text::Text;
+use reference::master::Question;
 use reference::script::{hex, meaning, Command, Meaning};
 use reference::telegram::TELEGRAM_LENGTH;
 
@@ -9,13 +10,14 @@ pub type StillDiffers<'a, T> = &'a mut dyn FnMut(&T) -> bool;
 /// Each try runs a program, and the bytes of a long form are many.
 const MOST_TRIES_FOR_A_FORM: u32 = 2_000;
 
-/// Drops lines, heads and bytes of sends, and again, until nothing more can go.
+/// Drops lines, heads, bytes of sends and fields of questions, and again, until nothing more can go.
 pub fn shrink_script(mut script: Text, still_differs: StillDiffers<Text>) -> Text {
     loop {
         let length_before = script.bytes().len();
         shrink_lines(&mut script, still_differs);
         shrink_heads(&mut script, still_differs);
         shrink_sends(&mut script, still_differs);
+        shrink_asks(&mut script, still_differs);
         if script.bytes().len() == length_before {
             return script;
         }
@@ -122,6 +124,34 @@ fn shrink_sends(script: &mut Text, still_differs: StillDiffers<Text>) {
     }
 }
 
+/// Word and data of a question become 0 where they are not needed.
+fn shrink_asks(script: &mut Text, still_differs: StillDiffers<Text>) {
+    for number in 0..script.lines.len() {
+        let Meaning::Command(Command::Ask { time, question }) = meaning(&script.lines[number]) else {
+            continue;
+        };
+        let simpler = [
+            Question { control_word: 0, data: 0, ..question },
+            Question { control_word: 0, ..question },
+            Question { data: 0, ..question },
+            question,
+        ];
+        let found = simpler.into_iter().find_map(|question| {
+            let mut changed = script.clone();
+            changed.lines[number] = ask_line(time, &question).into_bytes();
+            still_differs(&changed).then_some(changed)
+        });
+        if let Some(changed) = found {
+            *script = changed;
+        }
+    }
+}
+
+fn ask_line(time: u32, question: &Question) -> String {
+    let Question { command, node, parameter, control_word, data } = question;
+    format!("ask {time} {command} {node} {parameter} {control_word} {data}")
+}
+
 /// Drops chunks, from half of the list down to single items, as long as what is left still differs.
 fn shrink_list<T: Clone>(list: &mut Vec<T>, still_differs: StillDiffers<[T]>) {
     let mut size = list.len().div_ceil(2);
@@ -190,6 +220,17 @@ mod tests {
         let script = text(&["head 31", "tick 5", "send 7 001122334455", "# x"]);
         let mut has_33 = |script: &Text| script.bytes().windows(2).any(|pair| pair == b"33");
         assert_eq!(shrink_script(script, &mut has_33).bytes(), b"send 7 33\n");
+    }
+
+    #[test]
+    fn fields_of_questions_become_0() {
+        let data_of = |line: &[u8]| match meaning(line) {
+            Meaning::Command(Command::Ask { question, .. }) => question.data,
+            _ => 0,
+        };
+        let script = text(&["head 31", "ask 7 0 31 32 4 8", "ask  007 1 31 32 512 9 "]);
+        let mut asks_for_9 = |script: &Text| script.lines.iter().any(|line| data_of(line) == 9);
+        assert_eq!(shrink_script(script, &mut asks_for_9).bytes(), b"ask 7 1 31 32 0 9\n");
     }
 
     #[test]

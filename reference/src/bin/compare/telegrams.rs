@@ -43,6 +43,33 @@ impl Author<'_> {
         }
     }
 
+    /// A sound telegram, more often than others one that is refused.
+    pub fn question(&mut self) -> Telegram {
+        match self.random.below(20) {
+            0 => self.wrong_access(),
+            1 => self.unknown_parameter(),
+            2 => self.auto_id(),
+            3..=4 => self.value_beside_the_range(),
+            _ => self.any_telegram(),
+        }
+    }
+
+    /// Below, above, and between without being listed.
+    fn value_beside_the_range(&mut self) -> Telegram {
+        let (parameter, data) = self.random.pick(&[
+            (rows::NODE_ADDRESS, 0),
+            (rows::NODE_ADDRESS, 128),
+            (rows::OFFSET_VALUE, -20_000),
+            (rows::CALIBRATION_VALUE, 100_000),
+            (rows::ACKNOWLEDGEMENT_SETTINGS, 1),
+            (rows::ACKNOWLEDGEMENT_SETTINGS, 3),
+            (rows::SYSTEM_COMMAND, 0),
+            (rows::SYSTEM_COMMAND, 4),
+            (rows::FREEZE, 0),
+        ]);
+        self.sound(WRITE, parameter, 0, data as u32)
+    }
+
     /// A telegram that was hit on its way: more often than others one that the head would not answer, or that
     /// would restart it.
     pub fn noisy(&mut self) -> [u8; TELEGRAM_LENGTH] {

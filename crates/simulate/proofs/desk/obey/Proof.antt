@@ -58,11 +58,14 @@ obey-spec =
     (λ c. search needs)
     (λ c κs. tt)
     (λ c κs. tt)
+    (λ c. search needs)
+    (λ c κs. tt)
+    (λ c κs. tt)
     (λ c. did _ _ _ _ (c .before .before .meaning .ensures) (c .enum-told .given .1))
     (λ c. did _ _ _ _ (c .before .before .before .meaning .ensures) (c .before .enum-told2 .given .1))
     (λ c. let k = c .before .before .before in
     called (k .before .before .before .before .args .d) _ _ _ _ (c .done .ensures) (c .before .grow .ensures) (k .before .before .meaning .ensures) (k .node .given .1) refl)
-    (λ c. let k = c .before .before in rw (c .send .ensures) (did _ _ _ _ (k .before .before .meaning .ensures) (k .time .given .1)))
+    (λ c. let k = c .before .before in rw (c .feed .ensures) (did _ _ _ _ (k .before .before .meaning .ensures) (k .time .given .1)))
     (λ c. let k = c .before .before .before in
     called (k .before .before .before .before .args .d) _ _ _ _ (c .done2 .ensures) (c .before .tick .ensures) (k .before .before .meaning .ensures) (k .time2 .given .1) refl)
     (λ c. let k = c .before .before .before in
@@ -74,4 +77,6 @@ obey-spec =
     (λ c. let k = c .before .before .before in
     called (k .before .before .before .before .args .d) _ _ _ _ (c .done4 .ensures) (c .before .power .ensures) (k .before .before .meaning .ensures) (k .head3 .given .1) refl)
     (λ c. let k = c .before .before in c .spaced .ensures ∙ did _ _ _ _ (k .before .before .meaning .ensures) (k .size .given .1))
-    (λ c. let k = c .before .before .before in did _ _ _ _ (k .before .before .meaning .ensures) (k .head4 .given .1)))
+    (λ c. let k = c .before .before .before in did _ _ _ _ (k .before .before .meaning .ensures) (k .head4 .given .1))
+    (λ c. let k = c .before .before .before in
+    c .asked .ensures ∙ rw (c .before .question .ensures) (did _ _ _ _ (k .before .before .meaning .ensures) (k .time3 .given .1))))

@@ -158,18 +158,18 @@ impl Generator {
 
     /// What drops the offer, what replaces it, and much that does neither.
     fn after_the_offer(&mut self, number: usize) {
-        match self.random.below(28) {
-            0..=2 => self.send_from(number, illegal),
-            3..=4 => self.offer(number),
-            5..=10 => self.send_from(number, idle),
-            11..=13 => self.restart(number),
-            14..=15 => self.write_what_leaves_it(number),
-            16 => self.set_the_scene(number),
-            17..=18 => self.press_others(number),
-            19..=21 => self.press_in_short_space(number),
-            22 => self.tick_when_due(number),
-            23..=24 => self.move_by_some(number),
-            25..=26 => self.press_up_somewhere(),
+        match self.random.below(29) {
+            0..=3 => self.send_from(number, illegal),
+            4..=5 => self.offer(number),
+            6..=11 => self.send_from(number, idle),
+            12..=14 => self.restart(number),
+            15..=16 => self.write_what_leaves_it(number),
+            17 => self.set_the_scene(number),
+            18..=19 => self.press_others(number),
+            20..=22 => self.press_in_short_space(number),
+            23 => self.tick_when_due(number),
+            24..=25 => self.move_by_some(number),
+            26..=27 => self.press_up_somewhere(),
             _ => self.send_telegrams(),
         }
     }
@@ -427,7 +427,7 @@ mod tests {
                 step.before.iter().zip(&step.after).any(|(&before, &after)| is_meant(before, after))
             }
         };
-        let is_send = |step: &Step| matches!(step.command, Command::Send { .. });
+        let is_telegram = |step: &Step| matches!(step.command, Command::Send { .. } | Command::Ask { .. });
         let is_power = |step: &Step| matches!(step.command, Command::Power { .. });
         let is_made = changes(|before, after| before.is_none() && after.is_some());
         let is_replaced = changes(|before, after| before.is_some() && after.is_some() && before != after);
@@ -435,9 +435,9 @@ mod tests {
         let is_kept = changes(|before, after| before.is_some() && before == after);
         assert_frequent("made", 1_000, is_made, &steps);
         assert_frequent("replaced", 80, is_replaced, &steps);
-        assert_frequent("dropped by telegrams", 200, |step| is_send(step) && is_dropped(step), &steps);
+        assert_frequent("dropped by telegrams", 200, |step| is_telegram(step) && is_dropped(step), &steps);
         assert_frequent("dropped by power", 40, |step| is_power(step) && is_dropped(step), &steps);
-        assert_frequent("kept over telegrams", 1_000, |step| is_send(step) && is_kept(step), &steps);
+        assert_frequent("kept over telegrams", 1_000, |step| is_telegram(step) && is_kept(step), &steps);
         // Another head's, as one adopts its own.
         let is_adoption = |step: &Step| step.answer.starts_with("ok ");
         assert_frequent("kept elsewhere", 80, |step| is_adoption(step) && is_kept(step), &steps);

@@ -366,7 +366,18 @@ mod tests {
             // Refusals are no concern of the word.
             match command {
                 Command::Head { node } => drop(self.line.grow(node)),
-                Command::Send { time, bytes } => bytes.iter().for_each(|&byte| self.hear(time, byte)),
+                Command::Send { time, bytes } => {
+                    for byte in bytes {
+                        let answered = self.hear(time, byte);
+                        self.answered.extend(answered);
+                    }
+                }
+                // What comes back is read for its value, so that no word is seen.
+                Command::Ask { time, question } => {
+                    for byte in question.telegram().into_iter().flatten() {
+                        self.hear(time, byte);
+                    }
+                }
                 Command::Tick { time } => self.line.tick(time),
                 Command::Measure { head, value } => drop(self.line.measure(head, value)),
                 Command::Keys { head, state } => drop(self.line.keys(head, state, &mut self.space)),
@@ -376,7 +387,7 @@ mod tests {
             }
         }
 
-        fn hear(&mut self, time: u32, byte: u8) {
+        fn hear(&mut self, time: u32, byte: u8) -> Option<Answered> {
             let words = |line: &Line| line.heads().iter().map(Head::status_word).collect::<Vec<_>>();
             let nodes: Vec<u8> = self.line.heads().iter().map(Head::number_in_force).collect();
             let before = words(&self.line);
@@ -385,13 +396,13 @@ mod tests {
                 self.heard.push(byte);
             }
             if replies != Ok(1) {
-                return;
+                return None;
             }
             let bytes = *self.heard.last_chunk().expect("a reply takes ten bytes");
             let telegram = Telegram::received(bytes);
             let head = nodes.iter().position(|&node| node == telegram.node()).expect("it replied");
             let after = words(&self.line);
-            self.answered.push(Answered { telegram, before: before[head], after: after[head] });
+            Some(Answered { telegram, before: before[head], after: after[head] })
         }
     }
 

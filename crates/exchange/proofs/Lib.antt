@@ -1,0 +1,10 @@
+pub mod Words
+pub mod Asked
+pub mod Silence
+pub mod Addresses
+pub mod Heads
+pub mod OnLine
+pub mod Proved
+pub mod Premises
+pub mod Talks
+pub mod Wrongs
