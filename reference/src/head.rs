@@ -1,6 +1,8 @@
 //! One head: what it holds, a telegram's way through it, and what each telegram, key, measurement and tick does.
 
+use crate::line::Refusal;
 use crate::rows::{self, Access, ROWS, ROW_COUNT};
+use crate::sheet::{self, Setting, WRITTEN_LENGTH};
 use crate::telegram::{
     self, ErrorCode, Reply, Telegram, CHECK_SUM, COMMAND_NOT_SUPPORTED, DEVICE_STATUS, PROGRAMMING_LOCKED,
     READ, READ_OF_WRITE_ONLY, TELEGRAM_LENGTH, UNKNOWN_PARAMETER, VALUE_ABOVE_HIGH, VALUE_BELOW_LOW, WRITE,
@@ -151,6 +153,13 @@ impl Head {
         self.values[place_of(address)]
     }
 
+    /// All stored values, in the order of the rows, which is that of their addresses.
+    fn sheet(&self) -> Vec<u8> {
+        let setting =
+            |row: rows::Row| Setting { address: row.address, value: self.value(row.address) as u32 };
+        sheet::written(&ROWS.map(setting))
+    }
+
     pub fn is_locked(&self) -> bool {
         self.value(rows::PROGRAMMING_CONFIGURATION) == 1 && !self.interlock_open
     }
@@ -234,6 +243,22 @@ impl Head {
             return self.up_pressed(status_word_before);
         }
         None
+    }
+
+    /// Writes all 39 stored values as a sheet into the first bytes of the space.
+    pub fn save(&self, space: &mut [u8]) -> Result<(), Refusal> {
+        let room = space.get_mut(..WRITTEN_LENGTH).ok_or(Refusal::SheetSpace)?;
+        room.copy_from_slice(&self.sheet());
+        Ok(())
+    }
+
+    /// Stores what a sheet says, or nothing of it. The sheet does not come over the line, so the interlock has no
+    /// say; and a value of 00h or 01h waits for the restart as a written one does.
+    pub fn load(&mut self, sheet: &[u8]) -> Result<(), Refusal> {
+        for Setting { address, value } in sheet::loadable(sheet)? {
+            self.store(address, value);
+        }
+        Ok(())
     }
 
     /// Restart, by power or by A0h 9.
@@ -359,9 +384,14 @@ impl Head {
             rows::AUTO_ID => self.running.number_on_offer = Some(data as u8),
             rows::SET_POINT_1 => self.write_set_point_1(data, telegram.control_word()),
             rows::SET_POINT_2 => return self.write_set_point_2(data, telegram.control_word()),
-            _ => self.values[place_of(parameter)] = data as i32,
+            _ => self.store(parameter, data),
         }
         data
+    }
+
+    /// A value that has been found to be in its row.
+    fn store(&mut self, address: u8, data: u32) {
+        self.values[place_of(address)] = data as i32;
     }
 
     // Reading.

@@ -1,5 +1,6 @@
-//! A line of SIKONETZ5 heads and the master that asks them, written from document 01, requests (i) to (iii) and
-//! (vi) of document 02 and the AP05 manual in ordinary mutable style, and the check of an order form.
+//! A line of SIKONETZ5 heads, the master that asks them and the sheet on which their settings travel, written from
+//! document 01, requests (i) to (iii), (vi) and (vii) of document 02 and the AP05 manual in ordinary mutable style,
+//! and the check of an order form.
 //! DECISIONS.md lists the points that the documents leave open and what is done about each.
 
 pub mod form;
@@ -8,4 +9,5 @@ pub mod line;
 pub mod master;
 pub mod rows;
 pub mod script;
+pub mod sheet;
 pub mod telegram;

@@ -6,7 +6,7 @@ use crate::telegram::{Reply, TELEGRAM_LENGTH};
 pub const MOST_HEADS: usize = 8;
 const HIGHEST_KEY_STATE: u32 = 7;
 
-/// The refusals that a line made by calls alone and a master can give, with the documents' numbers.
+/// The refusals that a line made by calls alone, a master and a sheet can give, with the documents' numbers.
 #[derive(Clone, Copy, Debug, PartialEq, Eq)]
 pub enum Refusal {
     NodeNumber = 1,
@@ -16,6 +16,10 @@ pub enum Refusal {
     KeyState = 5,
     ReplySpace = 6,
     CommandOrNode = 10,
+    MalformedSheet = 11,
+    SheetAddress = 12,
+    SheetValue = 13,
+    SheetSpace = 14,
 }
 
 impl Refusal {
@@ -104,7 +108,20 @@ impl Line {
 
     /// The exclusive-or of the last damaged telegram that a head heard.
     pub fn bits_hit(&self, head: u32) -> Result<u8, Refusal> {
-        self.heads.get(head as usize).map(Head::bits_hit).ok_or(Refusal::HeadNumber)
+        Ok(self.head_as_it_is(head)?.bits_hit())
+    }
+
+    /// Writes a head's settings as a sheet into the first bytes of the space; those after it are as they were.
+    pub fn save(&self, head: u32, space: &mut [u8]) -> Result<(), Refusal> {
+        self.head_as_it_is(head)?.save(space)
+    }
+
+    pub fn load(&mut self, head: u32, sheet: &[u8]) -> Result<(), Refusal> {
+        self.head(head)?.load(sheet)
+    }
+
+    fn head_as_it_is(&self, number: u32) -> Result<&Head, Refusal> {
+        self.heads.get(number as usize).ok_or(Refusal::HeadNumber)
     }
 
     fn head(&mut self, number: u32) -> Result<&mut Head, Refusal> {

@@ -2,12 +2,13 @@
 
 use crate::line::{Line, Refusal};
 use crate::master::{Finding, Question};
+use crate::sheet::WRITTEN_LENGTH;
 use crate::telegram::TELEGRAM_LENGTH;
 use std::io::{self, BufRead, ErrorKind, Write};
 
 /// Without the newline and a carriage return before it.
 pub const LONGEST_LINE: usize = 4_096;
-pub const LARGEST_SPACE: usize = 64;
+pub const LARGEST_SPACE: usize = 1_024;
 const FIRST_SPACE: usize = 10;
 
 pub const HELP: &str = "\
@@ -25,8 +26,10 @@ line, words separated by blanks or tabs, one line of output for each.
   keys HEAD STATE      a head's keys: 1 left, 2 star, 4 up, or a sum of these
   power HEAD           switch a head off and on
   xor HEAD             which bits were hit in the last damaged telegram heard
-  space SIZE           how much reply space bytes and keys lend, 0 to 64; 10 at
-                       first
+  save HEAD            write a head's settings on a sheet
+  load HEAD [HEX]      load this sheet into a head; without HEX it has no byte
+  space SIZE           how much space bytes, keys and save lend, 0 to 1024; 10
+                       at first
 
 Numbers are decimal, TIME is in milliseconds. Blank lines and lines whose first
 word starts with # are passed over.
@@ -41,10 +44,13 @@ word starts with # are passed over.
                        one that is no reply to what was asked, or 'collision N'
   xor HH               the exclusive-or of its ten bytes as two hex digits; 00
                        if the head has heard none since it last started
+  saved HEX            the 274 bytes of the sheet
   refused N            1 node number not 1 to 127   4 measurement out of range
                        2 ninth head                 5 key state above 7
                        3 no such head               6 space under ten bytes
                        10 command above 2 or node above 127
+                       11 malformed sheet           13 value out of its row
+                       12 address not among the 39  14 space under 274 bytes
   error at line N      the line is none of these commands
 ";
 
@@ -58,6 +64,8 @@ pub enum Command {
     Keys { head: u32, state: u32 },
     Power { head: u32 },
     Xor { head: u32 },
+    Save { head: u32 },
+    Load { head: u32, sheet: Vec<u8> },
     Space { size: usize },
 }
 
@@ -95,6 +103,9 @@ fn command(words: &[&[u8]]) -> Option<Command> {
         [b"keys", head, state] => Some(Command::Keys { head: unsigned(head)?, state: unsigned(state)? }),
         [b"power", head] => Some(Command::Power { head: unsigned(head)? }),
         [b"xor", head] => Some(Command::Xor { head: unsigned(head)? }),
+        [b"save", head] => Some(Command::Save { head: unsigned(head)? }),
+        [b"load", head] => Some(Command::Load { head: unsigned(head)?, sheet: Vec::new() }),
+        [b"load", head, hex] => Some(Command::Load { head: unsigned(head)?, sheet: bytes(hex)? }),
         [b"space", size] => {
             let size = unsigned(size)? as usize;
             (size <= LARGEST_SPACE).then_some(Command::Space { size })
@@ -208,6 +219,8 @@ impl Simulation {
             Command::Keys { head, state } => return self.keys(head, state),
             Command::Power { head } => self.line.power(head),
             Command::Xor { head } => return self.xor(head),
+            Command::Save { head } => return self.save(head),
+            Command::Load { head, sheet } => self.line.load(head, &sheet),
             Command::Space { size } => {
                 self.space = size;
                 Ok(())
@@ -261,6 +274,14 @@ impl Simulation {
     fn xor(&self, head: u32) -> String {
         match self.line.bits_hit(head) {
             Ok(bits) => format!("xor {}", hex(&[bits])),
+            Err(refusal) => refused(refusal),
+        }
+    }
+
+    fn save(&self, head: u32) -> String {
+        let mut space = vec![0; self.space];
+        match self.line.save(head, &mut space) {
+            Ok(()) => format!("saved {}", hex(&space[..WRITTEN_LENGTH])),
             Err(refusal) => refused(refusal),
         }
     }
@@ -341,7 +362,7 @@ mod tests {
             control_word,
             data,
         };
-        let commands: [(&[u8], Command); 12] = [
+        let commands: [(&[u8], Command); 18] = [
             (b"head 31", Command::Head { node: 31 }),
             (b"send 7 00fFA0", Command::Send { time: 7, bytes: vec![0x00, 0xFF, 0xA0] }),
             (b"ask 7 0 31 32 0 5", Command::Ask { time: 7, question: fields(0, 31, 32, 0, 5) }),
@@ -358,7 +379,13 @@ mod tests {
             (b"\t keys  1\t5 ", Command::Keys { head: 1, state: 5 }),
             (b"power 0000000000000002", Command::Power { head: 2 }),
             (b"xor 4294967295", Command::Xor { head: u32::MAX }),
+            (b"save 3", Command::Save { head: 3 }),
+            (b" save\t4294967295 ", Command::Save { head: u32::MAX }),
+            (b"load 000 0104aF", Command::Load { head: 0, sheet: vec![0x01, 0x04, 0xAF] }),
+            (b"load 7 00\r", Command::Load { head: 7, sheet: vec![0x00] }),
+            (b"load 4294967295", Command::Load { head: u32::MAX, sheet: Vec::new() }),
             (b"space 64\r", Command::Space { size: 64 }),
+            (b"space 1024", Command::Space { size: 1_024 }),
             (b"measure 0 -0", Command::Measure { head: 0, value: 0 }),
         ];
         for (line, command) in commands {
@@ -385,7 +412,11 @@ mod tests {
             ask 0 0 31 32 0 18446744073709551616|ask 0 read 31 32 0 0|ASK 0 0 31 32 0 0|asked 0 0 31 32 0 0|\
             ask0 0 0 31 32 0 0|tick|tick 1 2|measure 0|measure 0 2147483648|measure 0 -2147483649|\
             measure 0 -|measure 0 --1|measure 0 +1|measure -0 1|keys 0 -1|power|\
-            xor|xor 0 0|xor -1|xor -0|xor x|xor 0x0|xor 4294967296|XOR 0|xor0|space 65|space -1|\
+            xor|xor 0 0|xor -1|xor -0|xor x|xor 0x0|xor 4294967296|XOR 0|xor0|\
+            save|save 0 0|save 0 00|save -0|save +0|save x|save 4294967296|SAVE 0|saved 0|save0|save 0#|\
+            load|load 0 0|load 0 000|load 0 0G|load 0 00 00|load 0 0x00|load 0 #|load -0 00|load -0|load 00 -0|\
+            load 4294967296|load 4294967296 00|load x 00|LOAD 0|loads 0 00|load0 00|\
+            space 1025|space 4294967295|space 65536|space -1|space|space 10 10|\
             head 1\r\r|head\x0B1|\xFF\x00";
         for line in lines.split(|&byte| byte == b'|') {
             assert_eq!(meaning(line), Meaning::Error, "{}", line.escape_ascii());
@@ -425,7 +456,7 @@ mod tests {
     #[test]
     fn an_error_changes_nothing_and_the_script_goes_on() {
         assert_eq!(
-            output_of(b"head 31\nspace 65\nsend 0 001F200000000000003F\n"),
+            output_of(b"head 31\nspace 1025\nsend 0 001F200000000000003F\n"),
             "ok\nerror at line 2\nsent 001F200000000000053A\n"
         );
     }

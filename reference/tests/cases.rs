@@ -18,12 +18,20 @@ fn assert_answers(script: &[u8], expected: &str) {
 
 #[test]
 fn the_cases_of_simulate() {
-    assert_answers(include_bytes!("../../crates/simulate/stdin"), include_str!("../../crates/simulate/stdout"));
+    assert_answers(
+        include_bytes!("../../crates/simulate/stdin"),
+        include_str!("../../crates/simulate/stdout"),
+    );
 }
 
 #[test]
 fn the_questions() {
     assert_answers(include_bytes!("../../tests/ask.script"), include_str!("../../tests/ask.answers"));
+}
+
+#[test]
+fn the_sheets() {
+    assert_answers(include_bytes!("../../tests/sheet.script"), include_str!("../../tests/sheet.answers"));
 }
 
 #[test]

@@ -28,13 +28,15 @@ use Rattle.head.specs.declared.refusal.Refusal.the-variants.{NoHead}
 use Rattle.head.specs.declared.calls.Hit.the-variants.{Bits, Refused}
 use Rattle.line.specs.Calls.{lastHitOf}
 use Rattle.line.proofs.Theorems.{well-at}
-use Rattle.demands.specs.Calls.{Ask, measure, power, Call, newHead, byte, tick, named, keys, Calls, _▸_}
-use Rattle.demands.specs.Past.{Entry, grown, room, gather, making, nothing, locked, telling, hearing, asked, adopts, adopting, pressing, pressed, makes, names, change, look, count, entry}
+use Rattle.head.specs.Calls.{loadedOf}
+use Rattle.demands.specs.Calls.{Ask, measure, power, load, Call, newHead, byte, tick, named, keys, Calls, _▸_}
+use Rattle.demands.specs.Past.{Entry, grown, room, gather, making, nothing, locked, telling, hearing, storing, loadable, loaded, asked, adopts, adopting, pressing, pressed, makes, names, change, look, count, entry}
 use Rattle.demands.specs.Run.{run, headIn, product}
 use Rattle.demands.specs.Hits.{Shown, damage, hits, lastHit, Hits, AllSeen, cases}
 use Rattle.demands.proofs.Computing.{computing}
 use Rattle.demands.proofs.Telegram.{told-restarts}
 use Rattle.demands.proofs.Ear.{ear-alone, ear-whole}
+use Rattle.demands.proofs.Loading.{guarded-is}
 use Rattle.demands.proofs.Heads.{askedOf, keyedBy, headBy}
 use Rattle.demands.proofs.Sim.{Is, sim, fits, number-is, locked-is, adopts-is, seen, of-heads}
 use Rattle.demands.proofs.Alone.{ticked, measured, keyed}
@@ -86,9 +88,10 @@ module _ (h : Head) (e : Entry) (A : Is h e) where
       go false p = ap (λ (s : Stepped). kept (s .head)) (ear-whole h (e .ear) b t (A .ear-is) (ltb-false _ _ p)) ∙ told-kept l t
 
   ask-kept : (a : Ask) → kept (askedOf a h) ≡ cond (asked a e .restarts) 0 (kept h)
-  unfolding askedOf alone.own alone.next asked restartedOf restartedFaults
+  unfolding askedOf alone.own alone.next asked loaded loadedOf restartedOf restartedFaults
   ask-kept (measure m) = either (λ (x : Head). kept x ≡ kept h) (inReachOf m) (λ _. ap (λ (f : Faults). f .hit) (measured h m .faults)) refl
   ask-kept power = refl
+  ask-kept (load s) = rw (guarded-is s h (loadedOf h s)) (elim (loadable s) as (λ x. kept (cond x (loadedOf h s) h) ≡ cond (cond x (storing s) nothing .restarts) 0 (kept h)) [ true ↦ refl | false ↦ refl ])
 
   -- a key state leaves it, but for the restart of an adoption
   keys-kept : (s n : ℕ) → kept (keyedBy s n h) ≡ cond (pressed s n e .restarts) 0 (kept h)

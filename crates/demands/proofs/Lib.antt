@@ -1,6 +1,7 @@
 pub mod Computing
 pub mod Marked
 pub mod Sentences
+pub mod SheetCases
 pub mod Named
 pub mod Twenty
 pub mod Refusals
@@ -8,6 +9,7 @@ pub mod Sorts
 pub mod Telegram
 pub mod Ear
 pub mod Heads
+pub mod Loading
 pub mod Sim
 pub mod Alone
 pub mod Lines
@@ -27,6 +29,7 @@ pub mod Hits
 pub mod AutoId
 pub mod Unseen
 pub mod Offering
+pub mod Sheets
 pub mod Proved
 pub mod Ordered
 pub mod Proposed
@@ -36,5 +39,6 @@ pub mod Wrongs
 pub mod WrongHits
 pub mod WrongOffers
 pub mod WrongWords
+pub mod WrongSheets
 pub mod Real
 pub mod Outcomes

@@ -22,7 +22,7 @@ use Rattle.head.specs.Calls.{factoryOf, nodeFits, madeOf}
 use Rattle.head.specs.Outcome.{tick, called}
 use Rattle.line.specs.declared.calls.Line.{Line}
 use Rattle.line.specs.Round.{allFit, saidBy, repliesOf}
-use Rattle.line.specs.Calls.{headAt, repliesAt, growOf, byteOf, byteSpaceOf, tickOf, keysOf, keysSpaceOf, lastHitOf}
+use Rattle.line.specs.Calls.{headAt, repliesAt, growOf, byteOf, byteSpaceOf, tickOf, keysOf, keysSpaceOf, lastHitOf, saveOf, saveSpaceOf}
 use Rattle.line.proofs.Laws.{one-replies, not-one, fits-small, fits-heads}
 use Rattle.line.proofs.Theorems.{byte-alone, byte-counts, byte-lays, tick-alone, named-there, named-one, keys-there, keys-lays, keys-one, well-at}
 use Rattle.demands.specs.Calls.{Ask}
@@ -150,6 +150,11 @@ module _ (l : Line) (f : Fits l) where
   pub line-shows : (i : ℕ) → i < l .count → lastHitOf l i ≡ head.lastHitOf (headAt l i)
   unfolding lastHitOf
   line-shows i p = rw (f .fits, lt-ltb i (l .count) p)
+
+  pub line-saves : (i : ℕ) (space : List ℕ) → i < l .count
+      → (saveOf l i (length space) ≡ head.saveOf (headAt l i) (length space)) × (saveSpaceOf l i space ≡ head.saveSpaceOf (headAt l i) space)
+  unfolding saveOf saveSpaceOf
+  line-saves i space p = (rw (f .fits, lt-ltb i (l .count) p), rw (f .fits, lt-ltb i (l .count) p))
 
   pub line-grows : (node : ℕ) → l .count < 8 → Grown l (growOf l node) (madeOf node)
   unfolding growOf madeOf

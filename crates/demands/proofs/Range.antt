@@ -1,7 +1,7 @@
 -- The value found by looking back lies in its row, as the head that holds it is well-formed; and it is a word of four bytes where the bytes
 -- of the calls are bytes, by induction over the calls.
 -- Assumes nothing.
-use Prim.Native.Nat.{ℕ, zero, suc, _<_, _≤_}
+use Prim.Native.Nat.{ℕ, zero, suc, _+_, _<_, _≤_}
 use mathlib.Core.Path.{_≡_, refl, subst}
 use mathlib.Core.Bool.{Bool, true, false, cond, _&&_, and-eq-true-iff}
 use mathlib.Core.Logic.{_≢_}
@@ -22,8 +22,9 @@ use Rattle.state.specs.Wellformed.{wellformedOf}
 use Rattle.state.proofs.Laws.{told, stored-told, offer-told}
 use Rattle.line.specs.Round.{allFit}
 use Rattle.line.proofs.Laws.{fits-small, fits-heads}
-use Rattle.demands.specs.Calls.{Ask, measure, power, Call, newHead, byte, tick, named, keys, Calls, start, _▸_, Bytes}
-use Rattle.demands.specs.Past.{Ear, Entry, Change, nothing, making, mayAdd, room, since, gather, kept, earBy, accepted, resets, gives, locked, obeying, withdrawn, dropping, hearing, asked, adopts, adopting, pressing, pressed, delivered, makes, names, change, look, next, account, count, entry, value, inForce}
+use Rattle.sheet.specs.Format.{countOf, addressOf, bodyOf, valueOf}
+use Rattle.demands.specs.Calls.{Ask, measure, power, load, IsSheet, Call, newHead, byte, tick, named, keys, Calls, start, _▸_, Bytes}
+use Rattle.demands.specs.Past.{Ear, Entry, Change, nothing, making, mayAdd, room, since, gather, kept, earBy, accepted, resets, gives, locked, obeying, withdrawn, dropping, hearing, orElse, written, storing, loadable, loaded, asked, adopts, adopting, pressing, pressed, delivered, makes, names, change, look, next, account, count, entry, value, inForce}
 use Rattle.demands.specs.Run.{run, headIn}
 use Rattle.demands.proofs.Ear.{ear-all}
 use Rattle.demands.proofs.Sim.{fits, sim}
@@ -146,10 +147,24 @@ hearing-words e l s =
     (λ r p. gives-word (fieldsOf l .parameter) (fieldsOf l .value) r (value-word l s) p)
     (either-words (withdrawn (e .number) l) dropping nothing (λ r p. tt) none-words))
 
-asked-words : (a : Ask) (e : Entry) → Words (asked a e)
-unfolding asked Words
-asked-words (measure m) e r p = tt
-asked-words power e r p = tt
+-- a value of a sheet is four bytes
+else-word : (o p : Option ℕ) → Word o → Word p → Word (orElse o p)
+else-word none p x y = y
+else-word (some v) p x y = x
+
+written-word : (s : List ℕ) → ((k : ℕ) → getD s k 0 < 256) → (n r : ℕ) → r < 39 → Word (written s n r)
+unfolding valueOf
+written-word s bs zero r p = tt
+written-word s bs (suc n) r p =
+    let at = bodyOf s n in
+    let w : valueOf s n < 4294967296 = omega (arith, bs at, bs (at + 1), bs (at + 2), bs (at + 3)) in
+    else-word (gives (addressOf s n) (valueOf s n) r) (written s n r) (gives-word (addressOf s n) (valueOf s n) r w p) (written-word s bs n r p)
+
+asked-words : (a : Ask) (e : Entry) → IsSheet a → Words (asked a e)
+unfolding asked Words loaded
+asked-words (measure m) e bs r p = tt
+asked-words power e bs r p = tt
+asked-words (load s) e bs r p = either-words (loadable s) (storing s) nothing (λ r p. written-word s bs (countOf s) r p) none-words r p
 
 -- a number that is adopted is one that is offered
 pressed-words : (s m : ℕ) (e : Entry) → e .offer < 4294967296 → Words (pressed s m e)
@@ -164,7 +179,7 @@ change-words (newHead node) n k e bs s o = made-words n node k
 change-words (byte b t x) n k e bs s o =
     either-words (room x) (hearing e (gather (e .ear) b t)) nothing (hearing-words e (gather (e .ear) b t) (gather-small (e .ear) b t s (bs .1))) none-words
 change-words (tick t) n k e bs s o = none-words
-change-words (named j a) n k e bs s o = either-words (names n j k) (asked a e) nothing (asked-words a e) none-words
+change-words (named j a) n k e bs s o = either-words (names n j k) (asked a e) nothing (asked-words a e (bs .1)) none-words
 change-words (keys j x m) n k e bs s o = go (ltb j n) refl (eqb k j) refl
   where
     go : (p : Bool) → ltb j n ≡ p → (q : Bool) → eqb k j ≡ q → Words (cond (p && q) (pressed x m e) nothing)

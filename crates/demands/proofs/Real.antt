@@ -8,8 +8,8 @@ use Rattle.order_form.proofs.Held.{added}
 use Rattle.free_number.specs.Demand as keeper
 use Rattle.master.specs.Demand as master
 use Rattle.master.proofs.Laws.{refusal-ten}
-use Rattle.demands.specs.Run.{product, askOf}
-use Rattle.demands.specs.Real.{Real, RealForm, RealMap, RealMaster}
+use Rattle.demands.specs.Run.{product, askOf, after}
+use Rattle.demands.specs.Real.{Real, Plain, RealSheet, RealForm, RealMap, RealMaster}
 use Rattle.demands.proofs.Computing.{computing}
 
 factory-made : factoryOf ≡ madeOf 31 .head
@@ -27,6 +27,11 @@ real =
       keys-asks = λ κs a. tt;
       power-asks = λ κs a. tt;
       last-hit-asks = λ κs a. tt;
+      load-asks = λ κs a. tt;
+      save-asks = λ κs a. tt;
+      number-asks = λ κs a. tt;
+      number-in-force-asks = λ κs a. tt;
+      baud-in-force-asks = λ κs a. tt;
       line-grow-asks = λ κs a. tt;
       line-byte-asks = λ κs a. tt;
       line-tick-asks = λ κs a. tt;
@@ -34,6 +39,8 @@ real =
       line-keys-asks = λ κs a. tt;
       line-power-asks = λ κs a. tt;
       line-last-hit-asks = λ κs a. tt;
+      line-load-asks = λ κs a. tt;
+      line-save-asks = λ κs a. tt;
       factory = λ κs a y u p. p ∙ factory-made;
       make = λ κs a y u p. p;
       byte = λ κs a y u p. p;
@@ -41,6 +48,8 @@ real =
       measure = λ κs a y u p. p;
       keys = λ κs a y u p. p;
       power = λ κs a y u p. p;
+      load = λ κs a y u p. p;
+      save = λ κs a y u p. p;
       number-in-force = λ κs a y u p. p;
       baud-in-force = λ κs a y u p. p;
       last-hit = λ κs a y u p. p;
@@ -54,6 +63,41 @@ real =
       line-keys = λ κs a y u p. p;
       line-power = λ κs a y u p. p;
       line-last-hit = λ κs a y u p. p;
+      line-load = λ κs a y u p. p;
+      line-save = λ κs a y u p. p;
+    }
+
+pub plain : Plain product
+unfolding after
+plain =
+    record {
+      grown = λ node l. refl;
+      heard = λ b t s l. refl;
+      ticked = λ t l. refl;
+      asked = λ j a l. refl;
+      pressed = λ j s n l. refl;
+      measured = λ x. refl;
+      powered = refl;
+      loaded = λ s. refl;
+    }
+
+pub real-sheet : RealSheet
+real-sheet =
+    record {
+      formed-asks = λ κs a. tt;
+      check-asks = λ κs a. tt;
+      load-asks = λ κs a. tt;
+      write-asks = λ κs a. tt;
+      number-asks = λ κs a. tt;
+      formed = λ κs a y u p. p;
+      check = λ κs a y u p. p;
+      load = λ κs a y u p. p;
+      write = λ κs a y u p. p;
+      sheet-number = λ κs a y u p. p;
+      new-asks = λ 𝓤 H A mem run κs a g. refl;
+      new = λ 𝓤 H A mem run κs a g y e. refl;
+      next-asks = λ 𝓤 H A mem run κs a g. refl;
+      next = λ 𝓤 H A mem run κs a g y e. refl;
     }
 
 pub real-form : RealForm answerOf

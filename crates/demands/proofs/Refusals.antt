@@ -29,17 +29,18 @@ use Rattle.head.specs.Calls as head
 use Rattle.head.specs.Calls.{Tests, nodeFits, factoryOf, madeOf}
 use Rattle.head.specs.Outcome as alone
 use Rattle.head.proofs.Nodes.{node-same}
-use Rattle.head.proofs.Tests.{failed}
+use Rattle.head.proofs.Tests.{failed, says}
 use Rattle.head.proofs.Asked.{called-same, called-refusal, lent-refusal}
 use Rattle.head.proofs.Refused.{refused-nothing}
 use Rattle.line.specs.declared.calls.Line.{Line}
 use Rattle.line.specs.declared.calls.Called.{Called}
-use Rattle.line.specs.Calls.{fitsOf, headAt, growOf, byteOf, byteSpaceOf, tickOf, namedOf, keysOf, keysSpaceOf, lastHitOf}
+use Rattle.line.specs.Calls.{fitsOf, headAt, growOf, byteOf, byteSpaceOf, tickOf, namedTests, namedOf, keysOf, keysSpaceOf, lastHitOf, saveOf, saveSpaceOf}
 use Rattle.line.proofs.Theorems.{grow-refused, tick-refused, named-refused, keys-refused, keys-spared, byte-refused, well-at}
 use Rattle.demands.specs.Calls.{Ask, Call, newHead, byte, tick, named, keys}
 use Rattle.demands.specs.Run.{product, aloneOf, after}
-use Rattle.demands.specs.Demand1.{Row, row, first, ownRows, keysRows, nodeRow, namedRows, headRows, rowsFor, rowsAlone, numbered, ofAnswer, ofHeard, ofHit, refusedAs, refusedAlone, headAfter, spaceAfter, Numbered, Demand1}
+use Rattle.demands.specs.Demand1.{Row, row, first, ownRows, keysRows, saveRows, nodeRow, namedRows, headRows, rowsFor, rowsAlone, numbered, ofAnswer, ofHeard, ofHit, refusedAs, refusedAlone, headAfter, spaceAfter, Numbered, Demand1}
 use Rattle.demands.proofs.Named.{ask-is}
+use Rattle.demands.proofs.Loading.{all-known-is, all-fitting-is}
 use Rattle.demands.proofs.Twenty.{twenty}
 
 -- ---- a test and its opposite
@@ -68,6 +69,7 @@ unfolding alone.own inReachOf
 own-rows (alone.tick t) = refl
 own-rows (alone.measure m) = refl
 own-rows alone.power = refl
+own-rows (alone.load s) = rw (all-known-is s, all-fitting-is s)
 
 -- ---- the number of each refusal
 module _ (h : Head) where
@@ -90,6 +92,12 @@ module _ (h : Head) where
   unfolding head.lastHitOf
   head-hit true p = simp p
   head-hit false p = simp p
+
+  head-save : (n : ℕ) → ofAnswer (head.saveOf h n) ≡ first (headRows h (saveRows n))
+  unfolding head.saveOf
+  head-save n =
+      ap numbered (says alone.ofAnswer answer.Refused answer.Done (head.saveTests h n) (λ why. refl) refl)
+      ∙ failed-first (head.saveTests h n) ∙ rw (twice (ltb n 274))
 
 module _ (l : Line) where
   grow-number : (node : ℕ) (f c n : Bool) → fitsOf l ≡ f → ltb (l .count) 8 ≡ c → (leb 1 node && leb node 127) ≡ n
@@ -134,6 +142,13 @@ module _ (l : Line) where
   line-hit j true false p q = simp (p, flip j (l .count), q)
   line-hit j true true p q =
       let w = well-at l p j (ltb-true _ _ q) in simp (p, flip j (l .count), q) (simp w at (head-hit (headAt l j) true w))
+
+  line-save : (j n : ℕ) (f i : Bool) → fitsOf l ≡ f → ltb j (l .count) ≡ i → ofAnswer (saveOf l j n) ≡ first (namedRows l j (saveRows n))
+  unfolding saveOf
+  line-save j n false i p q = simp p
+  line-save j n true false p q = simp (p, flip j (l .count), q)
+  line-save j n true true p q =
+      let w = well-at l p j (ltb-true _ _ q) in simp (p, flip j (l .count), q) (simp w at (head-save (headAt l j) n))
 
   line-number : (c : Call) → refusedAs (product .onLine) c l ≡ first (rowsFor c l)
   line-number (newHead node) = grow-number node (fitsOf l) (ltb (l .count) 8) (leb 1 node && leb node 127) refl refl refl
@@ -208,6 +223,23 @@ head-same (alone.keys s space) h n e =
     let u = refused-nothing (alone.keys s space) h (ap alone.ofHeard (w .1)) in (u .head, u .space)
 head-same (alone.asked a) h n e = let w = answered (alone.called a h .answer) e in (called-same a h (w .0) (w .1), refl)
 
+-- a sheet that is not written changes no byte of the space
+spared : (ts : Tests) (a : Answer) (x y : List ℕ) {n : ℕ} → (ofAnswer a ≡ some n → x ≡ y)
+    → ofAnswer (head.guarded answer.Refused ts a) ≡ some n → head.guarded (λ why. y) ts x ≡ y
+spared [] a x y s e = s e
+spared ((true, why) ∷ ts) a x y s e = spared ts a x y s e
+spared ((false, why) ∷ ts) a x y s e = refl
+
+saved-same : (h : Head) (space : List ℕ) (n : ℕ) → ofAnswer (head.saveOf h (length space)) ≡ some n → head.saveSpaceOf h space ≡ space
+unfolding head.saveOf head.saveSpaceOf
+saved-same h space n e =
+    spared (head.saveTests h (length space)) answer.Done _ space (λ q. absurd (let z : _≡_ {A = ℕ} 0 1 = cc in omega arith)) e
+
+save-same : (l : Line) (j : ℕ) (space : List ℕ) (n : ℕ) → ofAnswer (saveOf l j (length space)) ≡ some n → saveSpaceOf l j space ≡ space
+unfolding saveOf saveSpaceOf
+save-same l j space n e =
+    spared (namedTests l j) (head.saveOf (headAt l j) (length space)) (head.saveSpaceOf (headAt l j) space) space (saved-same (headAt l j) space n) e
+
 pub demand1 : Demand1 product
 demand1 =
     record {
@@ -216,11 +248,15 @@ demand1 =
       twenty = twenty;
       line-hit = λ l j. line-hit l j (fitsOf l) (ltb j (l .count)) refl refl;
       head-hit = λ h. head-hit h (wellformedOf h) refl;
+      line-save = λ l j n. line-save l j n (fitsOf l) (ltb j (l .count)) refl refl;
+      head-save = head-save;
       made-number = λ node. made-number node (leb 1 node && leb node 127) refl;
       made-head = λ node. made-head node (nodeFits node) refl;
       made-factory = λ node n. made-factory node n (nodeFits node) refl;
       line-same = line-same;
       space-same = space-same;
       keys-same = keys-same;
+      save-same = save-same;
+      saved-same = saved-same;
       head-same = head-same;
     }

@@ -2,7 +2,7 @@
 -- Assumes nothing.
 use Prim.Native.Nat.{ℕ, suc, _<_, _≤_}
 use mathlib.Core.Path.{_≡_, refl, sym, _∙_, ap, subst}
-use mathlib.Core.Bool.{Bool, true, false, cond, not, _&&_, false≢true}
+use mathlib.Core.Bool.{Bool, true, false, cond, not, _&&_, false≢true, and-eq-true-iff}
 use mathlib.Core.Logic.{_⊎_, inl}
 use mathlib.Core.List.{List, [], map}
 use native.Mathlib.Nat.{not-suc-le-zero}
@@ -32,12 +32,15 @@ use Rattle.line.specs.Calls.{emptyOf, fitsOf}
 use Rattle.line.proofs.Theorems.{empty-fits}
 use Rattle.head.proofs.Again.{told-stored, told-keys}
 use Rattle.head.proofs.Passes.{unanswered}
-use Rattle.demands.specs.Calls.{Ask, measure, power, Call, newHead, byte, tick, named, keys, Calls, start, _▸_}
+use Rattle.sheet.specs.Format.{wellFormedOf}
+use Rattle.head.specs.Calls.{loadedOf}
+use Rattle.demands.specs.Calls.{Ask, measure, power, load, Call, newHead, byte, tick, named, keys, Calls, start, _▸_}
 use Rattle.demands.specs.Past as past
-use Rattle.demands.specs.Past.{Entry, Change, nothing, delivered, making, mayAdd, grown, room, gather, kept, earBy, noBytes, locked, accepted, obeying, withdrawn, dropping, telling, hearing, cutting, asked, adopts, adopting, pressing, pressed, makes, names, change, look, next, entryBy, account, count, entry}
+use Rattle.demands.specs.Past.{Entry, Change, nothing, delivered, making, mayAdd, grown, room, gather, kept, earBy, noBytes, locked, accepted, obeying, withdrawn, dropping, telling, hearing, allStored, storing, loadable, loaded, cutting, asked, adopts, adopting, pressing, pressed, makes, names, change, look, next, entryBy, account, count, entry}
 use Rattle.demands.specs.Run.{runs, run, headIn}
 use Rattle.demands.proofs.Telegram.{Becomes, set-gives, told-becomes, told-restarts}
 use Rattle.demands.proofs.Ear.{Gathered, ear-short, ear-whole, ear-alone, told-none}
+use Rattle.demands.proofs.Loading.{all-known-is, guarded-is, loaded-becomes}
 use Rattle.demands.proofs.Heads.{after-keeps, after-count, askedOf, keyedBy, headBy, after-at}
 
 -- a head h is what its entry says of it: its values, its number in force, its interlock, its bytes, the number that is offered, its keys
@@ -283,10 +286,27 @@ module _ (h : Head) (e : Entry) (A : Is h e) where
           subst (λ (s : Stepped). Is (s .head) (next (telling e l) (record { bytes = []; last = t }) e)) (sym (ear-whole h (e .ear) b t (A .ear-is) (ltb-false _ _ p)))
           (told-is l t (record { bytes = []; last = t }) refl)
 
+  -- ---- a sheet that is accepted touches the stored values alone
+  stored-is : (s : List ℕ) → loadable s ≡ true → Is (loadedOf h s) (next (storing s) (e .ear) e)
+  unfolding loadable loadedOf look
+  stored-is s p =
+      let k = and-eq-true-iff (wellFormedOf s) _ .0 p .1 in
+      let known = all-known-is s ∙ and-eq-true-iff (allStored s) _ .0 k .0 in
+      changed (storing s) (e .ear) (loadedOf h s) (loaded-becomes h (A .size) s known) (same-ear (loadedOf h s) refl) refl
+
+  load-is : (s : List ℕ) → Is (cond (loadable s) (loadedOf h s) h) (next (loaded s) (e .ear) e)
+  unfolding loaded
+  load-is s = go (loadable s) refl
+    where
+      go : (b : Bool) → loadable s ≡ b → Is (cond b (loadedOf h s) h) (next (cond b (storing s) nothing) (e .ear) e)
+      go false p = idle-is h same
+      go true p = stored-is s p
+
   ask-is : (a : Ask) → Is (askedOf a h) (next (asked a e) (e .ear) e)
   unfolding askedOf alone.own alone.next asked
   ask-is (measure m) = idle-is _ (either-keeps h (inReachOf m) (measuredOf h m) h (measure-keeps h m) same)
   ask-is power = cut-is (e .ear)
+  ask-is (load s) = rw (guarded-is s h (loadedOf h s)) (load-is s)
 
   step-is : (c : Call) (n k : ℕ) → Is (headBy c n k h) (entryBy c n k e)
   unfolding headBy change earBy

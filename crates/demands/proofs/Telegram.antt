@@ -213,7 +213,7 @@ unfolding look
 dropping-becomes st = record { size = refl; vals = λ r lt. refl; force = refl; lock = refl; offer = refl }
 
 module _ (v w : ℕ) (st : parts.Stored) (full : length (st .values) ≡ 39) where
-  value-gives : (a i r : ℕ) → placeOf a ≡ At i → r < 39 → gives a v r ≡ cond (eqb r i) (some v) none
+  pub value-gives : (a i r : ℕ) → placeOf a ≡ At i → r < 39 → gives a v r ≡ cond (eqb r i) (some v) none
   unfolding gives
   value-gives a i r e lt = rw (value-same a i r e lt, value-system a i e)
 

@@ -3,11 +3,13 @@
 use Prim.Native.Nat.{ℕ, _<_}
 use mathlib.Core.List.{List, [], _∷_}
 use lib.IntN.{ℤ}
+use lib.ListN.{getD}
 
--- what is asked of a head by its number, with no space lent: a measurement, power
+-- what is asked of a head by its number, with no space lent: a measurement, power, a sheet loaded
 pub data Ask : Type 0 where
   measure : ℤ → Ask
   power : Ask
+  load : List ℕ → Ask
 
 -- grow by a node number; a byte at a time, with so much space lent; a tick; a call that names a head; a key state of the head that is named, with so
 -- much space lent
@@ -24,12 +26,17 @@ pub data Calls : Type 0 where
   start : Calls
   _▸_ : Calls → Call → Calls
 
--- each byte heard is one of eight bits, as the type of the byte call has it
+-- each byte heard, and each of a sheet, is one of eight bits, as the types of the calls have it
+abbrev pub IsSheet : Ask → Type 0
+IsSheet (measure m) = Unit {0}
+IsSheet power = Unit {0}
+IsSheet (load s) = (k : ℕ) → getD s k 0 < 256
+
 abbrev pub IsByte : Call → Type 0
 IsByte (newHead node) = Unit {0}
 IsByte (byte b t s) = b < 256
 IsByte (tick t) = Unit {0}
-IsByte (named j a) = Unit {0}
+IsByte (named j a) = IsSheet a
 IsByte (keys j s n) = Unit {0}
 
 abbrev pub Bytes : Calls → Type 0

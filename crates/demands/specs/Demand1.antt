@@ -25,7 +25,9 @@ use Rattle.head.specs.Calls.{factoryOf}
 use Rattle.head.specs.Outcome as alone
 use Rattle.line.specs.declared.calls.Line.{Line}
 use Rattle.line.specs.Calls.{fitsOf}
+use Rattle.sheet.specs.Format.{wellFormedOf}
 use Rattle.demands.specs.Calls.{Call, newHead, byte, tick, named, keys}
+use Rattle.demands.specs.Past.{allStored, allRight}
 use Rattle.demands.specs.Twenty.{Twenty}
 use Rattle.demands.specs.Run.{OnHead, OnLine, System, aloneOf, after}
 
@@ -42,11 +44,12 @@ abbrev pub first : List Row → Option ℕ
 first [] = none
 first (r ∷ rs) = cond (r .holds) (some (r .number)) (first rs)
 
--- what a measurement, a tick and power are refused for on their own, on a head alone and on a line
+-- what a tick, a measurement, power and a sheet loaded are refused for on their own, on a head alone and on a line
 abbrev pub ownRows : alone.Ask → List Row
 ownRows (alone.tick t) = []
 ownRows (alone.measure m) = row 4 (not (leZ (minus 2500000) m && leZ m (pos 2500000))) ∷ []
 ownRows alone.power = []
+ownRows (alone.load s) = row 11 (not (wellFormedOf s)) ∷ row 12 (not (allStored s)) ∷ row 13 (not (allRight s)) ∷ []
 
 abbrev pub nodeRow : ℕ → Row
 nodeRow node = row 1 (not (leb 1 node && leb node 127))
@@ -58,6 +61,10 @@ spaceRow s = row 6 (ltb s 10)
 abbrev pub keysRows : ℕ → ℕ → List Row
 keysRows s n = row 5 (ltb 7 s) ∷ spaceRow n ∷ []
 
+-- a sheet written, with so much space lent
+abbrev pub saveRows : ℕ → List Row
+saveRows n = row 14 (ltb n 274) ∷ []
+
 -- a call that names a head, and one on a head alone, with the rows of its own
 abbrev pub namedRows : Line → ℕ → List Row → List Row
 namedRows l j own = row 20 (not (fitsOf l)) ∷ row 3 (leb (l .count) j) ∷ own
@@ -65,7 +72,7 @@ namedRows l j own = row 20 (not (fitsOf l)) ∷ row 3 (leb (l .count) j) ∷ own
 abbrev pub headRows : Head → List Row → List Row
 headRows h own = row 20 (not (wellformedOf h)) ∷ own
 
--- 20 goes before all others, 2 before 1, and 3 before 4, 5 and 6
+-- 20 goes before all others, 2 before 1, and 3 before 4, 5, 6 and 11 to 14
 abbrev pub rowsFor : Call → Line → List Row
 rowsFor (newHead node) l = row 20 (not (fitsOf l)) ∷ row 2 (leb 8 (l .count)) ∷ nodeRow node ∷ []
 rowsFor (byte b t s) l = row 20 (not (fitsOf l)) ∷ spaceRow s ∷ []
@@ -128,6 +135,9 @@ pub record Demand1 (m : System) : Type 0 where
   -- document 02, request (i): so does the call that reads the last non-zero exclusive-or, which has no row of its own
   pub line-hit : (l : Line) (j : ℕ) → ofHit (m .onLine .hit l j) ≡ first (namedRows l j [])
   pub head-hit : (h : Head) → ofHit (m .onHead .hit h) ≡ first (headRows h [])
+  -- and so does the call that writes a sheet (request (vii)), which hands back no line and no head
+  pub line-save : (l : Line) (j n : ℕ) → ofAnswer (m .onLine .save l j n) ≡ first (namedRows l j (saveRows n))
+  pub head-save : (h : Head) (n : ℕ) → ofAnswer (m .onHead .save h n) ≡ first (headRows h (saveRows n))
   pub made-number : (node : ℕ) → ofAnswer (m .onHead .make node .answer) ≡ first (nodeRow node ∷ [])
   -- 20 exactly when one of its clauses fails
   pub twenty : Twenty
@@ -135,11 +145,14 @@ pub record Demand1 (m : System) : Type 0 where
   pub made-head : (node : ℕ) → ofAnswer (m .onHead .make node .answer) ≡ none → Numbered (m .onHead .make node .head) node
   pub made-factory : (node n : ℕ) → ofAnswer (m .onHead .make node .answer) ≡ some n
       → (m .onHead .make node .head ≡ factoryOf) × (factoryOf ≡ m .onHead .make 31 .head) × Numbered factoryOf 31
-  -- refused, it changes no line and no head, and no byte of the space (a call that reads what a head keeps hands back no line and no head)
+  -- refused, it changes no line and no head, and no byte of the space (a call that reads what a head keeps, or writes its sheet, hands back neither)
   pub line-same : (c : Call) (l : Line) (n : ℕ) → refusedAs (m .onLine) c l ≡ some n → after (m .onLine) c l ≡ l
   pub space-same : (l : Line) (b t : ℕ) (space : List ℕ) (n : ℕ)
       → refusedAs (m .onLine) (byte b t (length space)) l ≡ some n → m .onLine .space l b t space ≡ space
   pub keys-same : (l : Line) (j s : ℕ) (space : List ℕ) (n : ℕ)
       → refusedAs (m .onLine) (keys j s (length space)) l ≡ some n → m .onLine .keySpace l j s space ≡ space
+  pub save-same : (l : Line) (j : ℕ) (space : List ℕ) (n : ℕ)
+      → ofAnswer (m .onLine .save l j (length space)) ≡ some n → m .onLine .sheet l j space ≡ space
+  pub saved-same : (h : Head) (space : List ℕ) (n : ℕ) → ofAnswer (m .onHead .save h (length space)) ≡ some n → m .onHead .sheet h space ≡ space
   pub head-same : (c : alone.Call) (h : Head) (n : ℕ) → refusedAlone (m .onHead) c h ≡ some n
       → (headAfter (m .onHead) c h ≡ h) × (spaceAfter (m .onHead) c h ≡ alone.lentBy c)

@@ -14,13 +14,16 @@ pub mod Demand3
 pub mod Hits
 pub mod AutoId
 pub mod Unseen
+pub mod Sheets
 pub mod WrongHits
 pub mod WrongOffers
 pub mod WrongWords
+pub mod WrongSheets
 pub mod Ordered
 pub mod Proposed
 pub mod Wrong
 pub mod Cases
 pub mod Sentences
+pub mod SheetCases
 pub mod Real
 pub mod Outcomes

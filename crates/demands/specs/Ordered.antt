@@ -34,7 +34,7 @@ cs then start = cs
 cs then (ds ▸ d) = (cs then ds) ▸ d
 
 -- After the calls cs, none of the calls ds gives a head that is there then its node number: no head is made, and 00h, which stands at place 0, is
--- neither written nor reset. Restarts, power cuts, broadcasts, damaged telegrams, writes to every other parameter, and writes to 00h that no head
+-- neither written, by a telegram or from a sheet, nor reset. Restarts, power cuts, broadcasts, damaged telegrams, writes to every other parameter, and writes to 00h that no head
 -- accepts may be among them.
 abbrev pub Unnumbered : Calls → Calls → Type 0
 Unnumbered cs start = Unit {0}

@@ -19,6 +19,10 @@ use Rattle.rows.proofs.kind as rows-kind
 use Rattle.rows.proofs.range as rows-range
 use Rattle.rows.proofs.resets as rows-resets
 use Rattle.rows.proofs.table as rows-table
+use Rattle.sheet.proofs.format as sheet-format
+use Rattle.sheet.proofs.load as sheet-load
+use Rattle.sheet.proofs.refusal as sheet-refusal
+use Rattle.sheet.proofs.write as sheet-write
 use Rattle.judge.proofs.command as judge-command
 use Rattle.judge.proofs.deed as judge-deed
 use Rattle.judge.proofs.judged as judge-judged
@@ -93,6 +97,11 @@ pub record Outcomes : Type 0 where
   pub rows-resets-resets : One rows-resets.resets.Kinds.ps rows-resets.resets.Kinds.r rows-resets.resets.Reads.Post
   pub rows-table-row-of : One rows-table.row_of.Kinds.ps rows-table.row_of.Kinds.r rows-table.row_of.Reads.Post
   pub rows-table-place-of : One rows-table.place_of.Kinds.ps rows-table.place_of.Kinds.r rows-table.place_of.Reads.Post
+  pub sheet-format-well-formed : One sheet-format.well_formed.Kinds.ps sheet-format.well_formed.Kinds.r sheet-format.well_formed.Reads.Post
+  pub sheet-load-check : One sheet-load.check.Kinds.ps sheet-load.check.Kinds.r sheet-load.check.Reads.Post
+  pub sheet-load-load : One sheet-load.load.Kinds.ps sheet-load.load.Kinds.r sheet-load.load.Reads.Post
+  pub sheet-refusal-number : One sheet-refusal.Refusal.number.Kinds.ps sheet-refusal.Refusal.number.Kinds.r sheet-refusal.Refusal.number.Reads.Post
+  pub sheet-write-write : One sheet-write.write.Kinds.ps sheet-write.write.Kinds.r sheet-write.write.Reads.Post
   pub judge-command-command-of : One judge-command.command_of.Kinds.ps judge-command.command_of.Kinds.r judge-command.command_of.Reads.Post
   pub judge-command-reads : One judge-command.reads.Kinds.ps judge-command.reads.Kinds.r judge-command.reads.Reads.Post
   pub judge-command-writes : One judge-command.writes.Kinds.ps judge-command.writes.Kinds.r judge-command.writes.Reads.Post
@@ -143,6 +152,8 @@ pub record Outcomes : Type 0 where
   pub head-calls-keys : One head-calls.keys.Kinds.ps head-calls.keys.Kinds.r head-calls.keys.Reads.Post
   pub head-calls-power : One head-calls.power.Kinds.ps head-calls.power.Kinds.r head-calls.power.Reads.Post
   pub head-calls-last-hit : One head-calls.last_hit.Kinds.ps head-calls.last_hit.Kinds.r head-calls.last_hit.Reads.Post
+  pub head-calls-load : One head-calls.load.Kinds.ps head-calls.load.Kinds.r head-calls.load.Reads.Post
+  pub head-calls-save : One head-calls.save.Kinds.ps head-calls.save.Kinds.r head-calls.save.Reads.Post
   pub head-calls-number-in-force : One head-calls.number_in_force.Kinds.ps head-calls.number_in_force.Kinds.r head-calls.number_in_force.Reads.Post
   pub head-calls-baud-in-force : One head-calls.baud_in_force.Kinds.ps head-calls.baud_in_force.Kinds.r head-calls.baud_in_force.Reads.Post
   pub head-hear-elapsed : One head-hear.elapsed.Kinds.ps head-hear.elapsed.Kinds.r head-hear.elapsed.Reads.Post
@@ -166,6 +177,8 @@ pub record Outcomes : Type 0 where
   pub line-calls-keys : One line-calls.keys.Kinds.ps line-calls.keys.Kinds.r line-calls.keys.Reads.Post
   pub line-calls-power : One line-calls.power.Kinds.ps line-calls.power.Kinds.r line-calls.power.Reads.Post
   pub line-calls-last-hit : One line-calls.last_hit.Kinds.ps line-calls.last_hit.Kinds.r line-calls.last_hit.Reads.Post
+  pub line-calls-load : One line-calls.load.Kinds.ps line-calls.load.Kinds.r line-calls.load.Reads.Post
+  pub line-calls-save : One line-calls.save.Kinds.ps line-calls.save.Kinds.r line-calls.save.Reads.Post
   pub order-form-answer-number : One order_form-answer.Refusal.number.Kinds.ps order_form-answer.Refusal.number.Kinds.r order_form-answer.Refusal.number.Reads.Post
   pub order-form-form-blank : One order_form-form.blank.Kinds.ps order_form-form.blank.Kinds.r order_form-form.blank.Reads.Post
   pub order-form-form-add : One order_form-form.add.Kinds.ps order_form-form.add.Kinds.r order_form-form.add.Reads.Post

@@ -1,8 +1,8 @@
 -- The account of a line, found by looking back over the calls: how many heads there are, and of each its stored parameters, its number in
 -- force, its interlock, the bytes that stand gathered, the number that is offered and the keys that are down. It names no head and no line: its
--- imports are the wire, the table of parameters and the calls.
+-- imports are the wire, the table of parameters, the format of a sheet and the calls.
 -- Assumes nothing.
-use Prim.Native.Nat.{ℕ, suc, _+_, _-_, _/_, _%_}
+use Prim.Native.Nat.{ℕ, zero, suc, _+_, _-_, _/_, _%_}
 use mathlib.Core.Bool.{Bool, true, false, cond, not, _&&_, _||_}
 use mathlib.Core.List.{List, [], _∷_, _++_}
 use mathlib.Core.Option.{Option, none, some}
@@ -17,7 +17,9 @@ use Rattle.rows.specs.Among.{among}
 use Rattle.rows.specs.Table.{rowOf, address, delivery}
 use Rattle.rows.specs.Access.{stored, accessOf}
 use Rattle.rows.specs.Ranges.{rangeOf, isRight}
-use Rattle.demands.specs.Calls.{Ask, measure, power, Call, newHead, byte, tick, named, keys, Calls, start, _▸_}
+use Rattle.sheet.specs.Each.{each}
+use Rattle.sheet.specs.Format.{countOf, addressOf, valueOf, wellFormedOf}
+use Rattle.demands.specs.Calls.{Ask, measure, power, load, Call, newHead, byte, tick, named, keys, Calls, start, _▸_}
 
 -- ---- what is kept
 -- the bytes that stand gathered, and when the last was heard
@@ -175,6 +177,31 @@ telling e ten =
 unfoldable pub hearing : Entry → List ℕ → Change
 hearing e l = cond (ltb (length l) 10) nothing (telling e l)
 
+-- ---- a sheet is loaded, whatever the interlock: it is accepted where it is one, each address is one of the 39, and each value is right there
+abbrev pub allStored : List ℕ → Bool
+allStored s = each (λ i. among stored (addressOf s i)) (countOf s)
+
+abbrev pub allRight : List ℕ → Bool
+allRight s = each (λ i. isRight (rangeOf (addressOf s i) (valueOf s i))) (countOf s)
+
+unfoldable pub loadable : List ℕ → Bool
+loadable s = wellFormedOf s && (allStored s && allRight s)
+
+-- then it is an accepted write of each row, one after another: of the first n rows, what the last that touches the parameter at place r gives it
+abbrev pub orElse : {A : Type 0} → Option A → Option A → Option A
+orElse (some v) before = some v
+orElse none before = before
+
+abbrev pub written : List ℕ → ℕ → ℕ → Option ℕ
+written s zero r = none
+written s (suc n) r = orElse (gives (addressOf s n) (valueOf s n) r) (written s n r)
+
+abbrev pub storing : List ℕ → Change
+storing s = record { gives = λ r. written s (countOf s) r; restarts = false; opens = none; offers = none; presses = none }
+
+unfoldable pub loaded : List ℕ → Change
+loaded s = cond (loadable s) (storing s) nothing
+
 -- ---- a head is asked by its number; power is cut
 abbrev pub cutting : Change
 cutting = record { gives = λ r. none; restarts = true; opens = none; offers = none; presses = none }
@@ -182,6 +209,7 @@ cutting = record { gives = λ r. none; restarts = true; opens = none; offers = n
 unfoldable pub asked : Ask → Entry → Change
 asked (measure m) e = nothing
 asked power e = cutting
+asked (load s) e = loaded s
 
 -- ---- keys: the key state is taken, where it is 7 at most and ten bytes are lent; up, with weight 4, is newly pressed where it is down and was not
 abbrev pub upPressed : ℕ → ℕ → Bool

@@ -8,6 +8,7 @@ use lib.ListN.{length, take}
 use Rattle.wire.specs.Telegram.{bytesOf}
 use Rattle.state.specs.declared.parts.Head.{Head}
 use Rattle.effects.specs.Restart.{emptyEar}
+use Rattle.head.specs.declared.calls.Answer.{Answer}
 use Rattle.head.specs.declared.calls.Called as head-Called
 use Rattle.head.specs.declared.calls.Fed as head-Fed
 use Rattle.head.specs.declared.calls.Heard.{Heard}
@@ -19,11 +20,12 @@ use Rattle.head.specs.Outcome as alone
 use Rattle.line.specs.declared.calls.Line.{Line}
 use Rattle.line.specs.declared.calls.Called.{Called}
 use Rattle.line.specs.declared.calls.Fed.{Fed}
-use Rattle.line.specs.Calls.{emptyOf, headAt, fitsOf, growOf, byteOf, byteSpaceOf, tickOf, measureOf, keysOf, keysSpaceOf, powerOf, lastHitOf}
-use Rattle.demands.specs.Calls.{Ask, measure, power, Call, newHead, byte, tick, named, keys, Calls, start, _▸_}
+use Rattle.line.specs.Calls.{emptyOf, headAt, fitsOf, growOf, byteOf, byteSpaceOf, tickOf, measureOf, keysOf, keysSpaceOf, powerOf, lastHitOf, loadOf, saveOf, saveSpaceOf}
+use Rattle.demands.specs.Calls.{Ask, measure, power, load, Call, newHead, byte, tick, named, keys, Calls, start, _▸_}
 
 -- ---- the calls on a head alone: it is made with a node number; a byte, by its time and the length of the space lent, and the space after it;
--- a tick, a measurement, power; what the last damaged telegram was hit by; a key state, by the length of the space lent, and the space after it
+-- a tick, a measurement, power, a sheet loaded; what the last damaged telegram was hit by; a key state, by the length of the space lent, and the
+-- space after it; a sheet written, by the length of the space lent, and the space after it
 pub record OnHead : Type 0 where
   pub make : ℕ → head-Called.Called
   pub byte : Head → ℕ → ℕ → ℕ → head-Fed.Fed
@@ -32,9 +34,11 @@ pub record OnHead : Type 0 where
   pub hit : Head → Hit
   pub keys : Head → ℕ → ℕ → head-Fed.Fed
   pub keySpace : Head → ℕ → List ℕ → List ℕ
+  pub save : Head → ℕ → Answer
+  pub sheet : Head → List ℕ → List ℕ
 
 -- the calls on a line: it is grown by a node number; a byte; a tick; a call that names a head; what the last damaged telegram that a head heard
--- was hit by; a key state of the head that is named
+-- was hit by; a key state of the head that is named; its sheet
 pub record OnLine : Type 0 where
   pub grow : Line → ℕ → Called
   pub byte : Line → ℕ → ℕ → ℕ → Fed
@@ -44,6 +48,8 @@ pub record OnLine : Type 0 where
   pub hit : Line → ℕ → Hit
   pub keys : Line → ℕ → ℕ → ℕ → Fed
   pub keySpace : Line → ℕ → ℕ → List ℕ → List ℕ
+  pub save : Line → ℕ → ℕ → Answer
+  pub sheet : Line → ℕ → List ℕ → List ℕ
 
 pub record System : Type 0 where
   pub onHead : OnHead
@@ -53,6 +59,7 @@ pub record System : Type 0 where
 unfoldable pub askOf : Ask → Line → ℕ → Called
 askOf (measure m) l j = measureOf l j m
 askOf power l j = powerOf l j
+askOf (load s) l j = loadOf l j s
 
 abbrev pub product : System
 product =
@@ -65,6 +72,8 @@ product =
         hit = head.lastHitOf;
         keys = head.keysOf;
         keySpace = head.keysSpaceOf;
+        save = head.saveOf;
+        sheet = head.saveSpaceOf;
       };
       onLine = record {
         grow = growOf;
@@ -75,6 +84,8 @@ product =
         hit = lastHitOf;
         keys = keysOf;
         keySpace = keysSpaceOf;
+        save = saveOf;
+        sheet = saveSpaceOf;
       };
     }
 
@@ -82,6 +93,7 @@ product =
 abbrev pub aloneOf : Ask → alone.Ask
 aloneOf (measure m) = alone.measure m
 aloneOf power = alone.power
+aloneOf (load s) = alone.load s
 
 -- the line after a call
 unfoldable pub after : OnLine → Call → Line → Line

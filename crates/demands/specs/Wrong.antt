@@ -17,6 +17,7 @@ use Rattle.head.specs.declared.calls.Heard.{Heard}
 use Rattle.head.specs.declared.calls.Heard.the-variants as heard
 use Rattle.head.specs.declared.calls.Hit.the-variants as hit
 use Rattle.head.specs.Hear.{withEar}
+use Rattle.head.specs.declared.calls.Answer.the-variants as answer
 use Rattle.head.specs.Calls as head
 use Rattle.head.specs.Outcome as alone
 use Rattle.line.specs.declared.calls.Line.{Line}
@@ -40,6 +41,8 @@ refusing why =
         hit = λ h. hit.Refused why;
         keys = λ h s n. record { head = h; heard = heard.Refused why };
         keySpace = λ h s x. x;
+        save = λ h n. answer.Refused why;
+        sheet = λ h x. x;
       };
       onLine = record {
         grow = λ l node. line.refusedWith l why;
@@ -50,6 +53,8 @@ refusing why =
         hit = λ l j. hit.Refused why;
         keys = λ l j s n. record { line = l; heard = heard.Refused why };
         keySpace = λ l j s x. x;
+        save = λ l j n. answer.Refused why;
+        sheet = λ l j x. x;
       };
     }
 
@@ -65,6 +70,8 @@ unchanging =
         hit = head.lastHitOf;
         keys = λ h s n. record { head = h; heard = head.keysOf h s n .heard };
         keySpace = head.keysSpaceOf;
+        save = head.saveOf;
+        sheet = head.saveSpaceOf;
       };
       onLine = record {
         grow = λ l node. record { line = l; answer = line.growOf l node .answer };
@@ -75,6 +82,8 @@ unchanging =
         hit = line.lastHitOf;
         keys = λ l j s n. record { line = l; heard = line.keysOf l j s n .heard };
         keySpace = line.keysSpaceOf;
+        save = line.saveOf;
+        sheet = line.saveSpaceOf;
       };
     }
 
@@ -90,6 +99,8 @@ counting k =
         hit = head.lastHitOf;
         keys = head.keysOf;
         keySpace = head.keysSpaceOf;
+        save = head.saveOf;
+        sheet = head.saveSpaceOf;
       };
       onLine = record {
         grow = line.growOf;
@@ -100,6 +111,8 @@ counting k =
         hit = line.lastHitOf;
         keys = line.keysOf;
         keySpace = line.keysSpaceOf;
+        save = line.saveOf;
+        sheet = line.saveSpaceOf;
       };
     }
 
@@ -121,6 +134,8 @@ headSaying f =
       hit = head.lastHitOf;
       keys = head.keysOf;
       keySpace = head.keysSpaceOf;
+      save = head.saveOf;
+      sheet = head.saveSpaceOf;
     }
 
 abbrev pub lineSaying : (List ℕ → List ℕ) → OnLine
@@ -134,6 +149,8 @@ lineSaying f =
       hit = line.lastHitOf;
       keys = line.keysOf;
       keySpace = line.keysSpaceOf;
+      save = line.saveOf;
+      sheet = line.saveSpaceOf;
     }
 
 -- the same reply always
@@ -271,6 +288,8 @@ hasty =
         hit = line.lastHitOf;
         keys = line.keysOf;
         keySpace = line.keysSpaceOf;
+        save = line.saveOf;
+        sheet = line.saveSpaceOf;
       };
     }
 

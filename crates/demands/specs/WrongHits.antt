@@ -50,6 +50,8 @@ keepingBy f =
         hit = line.lastHitOf;
         keys = line.keysOf;
         keySpace = line.keysSpaceOf;
+        save = line.saveOf;
+        sheet = line.saveSpaceOf;
       };
     }
 
@@ -90,6 +92,8 @@ muted =
         hit = head.lastHitOf;
         keys = head.keysOf;
         keySpace = head.keysSpaceOf;
+        save = head.saveOf;
+        sheet = head.saveSpaceOf;
       };
       onLine = product .onLine;
     }

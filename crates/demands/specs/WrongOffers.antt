@@ -50,6 +50,8 @@ eager =
         hit = line.lastHitOf;
         keys = line.keysOf;
         keySpace = line.keysSpaceOf;
+        save = line.saveOf;
+        sheet = line.saveSpaceOf;
       };
     }
 

@@ -1,5 +1,5 @@
 // A question of the master and the answer of a head: what is sent is read back as it was meant (specs/, proofs/). The functions here do nothing: that
-// they are proved says that whatever question, head or line a program can hand in is held by its types, as the promise asks (specs/Typed).
+// they are proved says that whatever question, head or line a program can hand in is held by its types, as the promises ask (specs/Typed; demands/specs/Sheets).
 use line::calls::Line;
 use state::parts::Ear;
 use state::parts::ErrorList;
@@ -13,6 +13,7 @@ ghost use mathlib.Core.Path.{_≡_};
 ghost use lib.ListN.{length};
 ghost use Rattle.wire.specs.Telegram.{Fits};
 ghost use Rattle.line.specs.Calls.{headAt};
+ghost use Rattle.demands.specs.Sheets as settings;
 ghost use Rattle.exchange.specs.Typed.{TypedValues, TypedTargets, TypedList, TypedFaults, TypedEar, Typed};
 
 fn question_typed(q: Telegram)
@@ -54,6 +55,18 @@ fn typed(h: Head)
     targets_typed(h.targets);
     faults_typed(h.faults);
     ear_typed(h.ear);
+}
+
+// A head's settings are 39 words of 32 bits, as the promises about sheets ask.
+fn places_typed(s: Stored)
+    ensures { λ r. ⌜ length (s .values) ≡ 39 ⌝ }
+{}
+
+fn settings_typed(h: Head)
+    ensures { λ r. ⌜ settings.Typed h ⌝ }
+{
+    places_typed(h.stored);
+    values_typed(h.stored);
 }
 
 fn line_typed(l: Line)

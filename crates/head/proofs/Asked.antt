@@ -18,22 +18,24 @@ use Rattle.head.specs.declared.calls.Called.{Called}
 use Rattle.head.specs.declared.calls.Fed.{Fed}
 use Rattle.head.specs.declared.hear.Stepped.{Stepped}
 use Rattle.head.specs.Moves.{keyedOf}
-use Rattle.head.specs.Calls.{Tests, guarded, doneWith, refusedWith, askedOf, fedWith, unfed, spaceWith, lentTests, keysTests, keysOf, tickOf, measureOf, powerOf}
-use Rattle.head.specs.Outcome.{Ask, tick, measure, power, called, own, next, ofAnswer, ofHeard}
+use Rattle.head.specs.Calls.{Tests, guarded, doneWith, refusedWith, askedOf, fedWith, unfed, spaceWith, lentTests, keysTests, keysOf, tickOf, measureOf, powerOf, loadOf}
+use Rattle.head.specs.Outcome.{Ask, tick, measure, power, load, called, own, next, ofAnswer, ofHeard}
 use Rattle.head.proofs.Tests.{failed, Hold, either, says}
-use Rattle.head.proofs.Keeps.{tick-fits, measure-fits, keys-fits, restart-fits}
+use Rattle.head.proofs.Keeps.{tick-fits, measure-fits, keys-fits, restart-fits, load-fits}
 
 pub called-is : (a : Ask) (h : Head) → called a h ≡ askedOf h (own a) (next a h)
-unfolding called own next tickOf measureOf powerOf
+unfolding called own next tickOf measureOf powerOf loadOf
 called-is (tick at) h = refl
 called-is (measure m) h = refl
 called-is power h = refl
+called-is (load s) h = refl
 
 next-fits : (a : Ask) (h : Head) → wellformedOf h ≡ true → Hold (own a) → wellformedOf (next a h) ≡ true
 unfolding own next
 next-fits (tick at) h w t = tick-fits h at w
 next-fits (measure m) h w t = measure-fits h m (t .0) w
 next-fits power h w t = restart-fits h w
+next-fits (load s) h w t = load-fits h s (t .1 .1 .0) w
 
 module _ (a : Ask) (h : Head) where
   -- 20, then the call's own

@@ -21,13 +21,15 @@ use Rattle.state.specs.declared.parts.Stored.{Stored}
 use Rattle.state.specs.declared.parts.Ear.{Ear}
 use Rattle.state.specs.Settings.{valueAt, timeoutPlace, calibrationKeyPlace, incrementalKeyPlace}
 use Rattle.state.specs.Wellformed.{inReachOf, earFits, wellformedOf}
-use Rattle.state.proofs.Laws.{told, holds, stored-told, ear-holds}
+use Rattle.state.proofs.Laws.{told, holds, stored-told, stored-holds, ear-holds}
 use Rattle.effects.specs.Restart.{emptyEar, restartedOf, freshOf}
+use Rattle.sheet.specs.Loading.{allFittingOf}
+use Rattle.sheet.proofs.Loads.{stored-right}
 use Rattle.effects.proofs.Keeps.{either, stored-keeps, counted-keeps, complained-keeps, faults-keeps, raised-keeps, calibrated-keeps, switched-keeps, moved-keeps, measurement-keeps, empty-ear-fits, pending-keeps, restarted-keeps, adopted-keeps, fresh-keeps}
 use Rattle.head.specs.declared.hear.Stepped.{Stepped}
 use Rattle.head.specs.Hear.{elapsedOf, keptEar, oneMore, gatheredOn, gatheredOf, standingOf, restartsOf, affectedOf, toldOf, tellOf, withEar, stepBy, stepOf}
 use Rattle.head.specs.Moves.{overdueOf, tickedOf, measuredOf, withKeys, leftKey, upKey, pressedOf, leftOf, upOf, leftTaken, adoptsOf, keyedOf}
-use Rattle.head.specs.Calls.{nodeFits, factoryOf}
+use Rattle.head.specs.Calls.{nodeFits, factoryOf, loadedOf}
 
 -- what holds of both ways of a test holds of it
 same : (P : Head → Type 0) (b : Bool) {x y : Head} → P x → P y → P (cond b x y)
@@ -82,7 +84,7 @@ pub step-fits : (h : Head) (b at : ℕ) → wellformedOf h ≡ true → wellform
 unfolding stepOf gatheredOf
 step-fits h b at f = by-fits h b at (keptEar (h .ear) at) (kept-few (h .ear) at (told h f .ear)) f
 
--- ---- tick, measurement, keys, power, and a head that is made
+-- ---- tick, measurement, keys, power, a sheet loaded, and a head that is made
 pub tick-fits : (h : Head) (at : ℕ) → wellformedOf h ≡ true → wellformedOf (tickedOf h at) ≡ true
 unfolding tickedOf
 tick-fits h at f =
@@ -135,6 +137,20 @@ keys-fits h k r f =
 
 pub restart-fits : (h : Head) → wellformedOf h ≡ true → wellformedOf (restartedOf h) ≡ true
 restart-fits h f = restarted-keeps h f
+
+pub load-fits : (h : Head) (s : List ℕ) → allFittingOf s ≡ true → wellformedOf h ≡ true → wellformedOf (loadedOf h s) ≡ true
+unfolding loadedOf
+load-fits h s r f =
+    let w = told h f in
+    let k = stored-told (h .stored) (w .stored) in
+    holds (loadedOf h s)
+    (record {
+      stored = stored-holds (loadedOf h s .stored) (record { values = stored-right (h .stored .values) s (k .values) r; number = k .number; offer = k .offer });
+      faults = w .faults;
+      measurement = w .measurement;
+      ear = w .ear;
+      keys = w .keys;
+    })
 
 pub fresh-fits : (node : ℕ) → nodeFits node ≡ true → wellformedOf (freshOf node) ≡ true
 unfolding nodeFits

@@ -28,14 +28,15 @@ use Rattle.effects.specs.Faults.{countedOf, complainedOf, faultsBy}
 use Rattle.effects.specs.Measured.{measurementBy}
 use Rattle.effects.specs.Aimed.{targetsBy}
 use Rattle.effects.specs.Restart.{emptyEar}
+use Rattle.sheet.specs.declared.refusal.Refusal as sheet
 use Rattle.head.specs.declared.refusal.Refusal.{Refusal}
-use Rattle.head.specs.declared.refusal.Refusal.the-variants.{Keys, Space, Malformed}
+use Rattle.head.specs.declared.refusal.Refusal.the-variants.{Keys, Space, Sheet, Malformed}
 use Rattle.head.specs.declared.calls.Answer.{Answer}
 use Rattle.head.specs.declared.calls.Answer.the-variants as answer
 use Rattle.head.specs.Hear.{standingOf, restartsOf, startedOf, toldOf, stepOf}
 use Rattle.head.specs.Moves.{keyedOf}
 use Rattle.head.specs.Calls.{Tests, lentTests, keysTests, byteOf, byteSpaceOf, keysOf, keysSpaceOf}
-use Rattle.head.specs.Outcome.{Ask, tick, measure, keys, power, called, own, Call, byte, asked, ofAnswer, refusalBy, headAfter, lentBy, spaceAfter}
+use Rattle.head.specs.Outcome.{Ask, tick, measure, keys, power, load, called, own, Call, byte, asked, ofAnswer, refusalBy, headAfter, lentBy, spaceAfter}
 use Rattle.head.proofs.Tests.{failed}
 use Rattle.head.proofs.Asked.{called-same, called-refusal, lent-refusal, lent-same}
 
@@ -108,11 +109,15 @@ other [] o e = never e
 other ((true, why) ∷ ts) o e = other ts (o .1) e
 other ((false, why) ∷ ts) o e = absurd (o .0 (cc))
 
+sheet-other : {why : sheet.Refusal} → Sheet why ≢ Malformed
+sheet-other e = let z : _≡_ {A = ℕ} 0 1 = cc in omega arith
+
 own-others : (a : Ask) → Others (own a)
 unfolding own
 own-others (tick at) = tt
 own-others (measure m) = (λ e. let z : _≡_ {A = ℕ} 0 1 = cc in omega arith, tt)
 own-others power = tt
+own-others (load s) = (sheet-other, (sheet-other, (sheet-other, tt)))
 
 space-other : Space ≢ Malformed
 space-other e = let z : _≡_ {A = ℕ} 0 1 = cc in omega arith

@@ -1,4 +1,4 @@
--- The calls on a head and their refusals (document 01, "The line, and calls refused"): 20 goes before all others.
+-- The calls on a head and their refusals (document 01, "The line, and calls refused"; sheets: document 02, request (vii)): 20 goes before all others.
 -- Assumes nothing.
 use Prim.Native.Nat.{ℕ}
 use mathlib.Core.Bool.{Bool, cond, not}
@@ -11,9 +11,16 @@ use Rattle.rows.specs.Ranges.{fitsIn}
 use Rattle.state.specs.declared.parts.Head.{Head}
 use Rattle.state.specs.Settings.{nodePlace}
 use Rattle.state.specs.Wellformed.{inReachOf, wellformedOf}
-use Rattle.effects.specs.Restart.{restartedOf, freshOf}
+use Rattle.effects.specs.Stored.{withValues}
+use Rattle.effects.specs.Restart.{restartedOf, withStored, freshOf}
+use Rattle.sheet.specs.declared.refusal.Refusal.the-variants as sheet
+use Rattle.sheet.specs.declared.refusal.Answer as sheet-Answer
+use Rattle.sheet.specs.declared.refusal.Answer.the-variants as sheet-answer
+use Rattle.sheet.specs.Format.{countOf, wellFormedOf}
+use Rattle.sheet.specs.Loading.{allKnownOf, allFittingOf, storedRows}
+use Rattle.sheet.specs.Writing.{whole, sheetOf}
 use Rattle.head.specs.declared.refusal.Refusal.{Refusal}
-use Rattle.head.specs.declared.refusal.Refusal.the-variants.{Node, OutOfReach, Keys, Space, Malformed}
+use Rattle.head.specs.declared.refusal.Refusal.the-variants.{Node, OutOfReach, Keys, Space, Sheet, Malformed}
 use Rattle.head.specs.declared.calls.Answer.{Answer}
 use Rattle.head.specs.declared.calls.Answer.the-variants as answer
 use Rattle.head.specs.declared.calls.Called.{Called}
@@ -110,3 +117,28 @@ powerOf h = askedOf h [] (restartedOf h)
 -- the last non-zero exclusive-or, 0 where there is none (document 02, request (i)): 20, then what is kept, whatever byte that is
 unfoldable pub lastHitOf : Head → Hit
 lastHitOf h = guarded hit.Refused ((wellformedOf h, Malformed) ∷ []) (hit.Bits (h .faults .hit))
+
+-- ---- a sheet is loaded: 11, then 12, then 13; where all hold, its values are stored at the places of their addresses, and no other part of the head changes
+abbrev pub sheetTests : List ℕ → Tests
+sheetTests s = (wellFormedOf s, Sheet sheet.Malformed) ∷ (allKnownOf s, Sheet sheet.NotStored) ∷ (allFittingOf s, Sheet sheet.OutOfRow) ∷ []
+
+unfoldable pub loadedOf : Head → List ℕ → Head
+loadedOf h s = withStored h (withValues (h .stored) (storedRows (h .stored .values) s (countOf s)))
+
+unfoldable pub loadOf : Head → List ℕ → Called
+loadOf h s = askedOf h (sheetTests s) (loadedOf h s)
+
+-- what is answered for a sheet
+abbrev pub toldOf : sheet-Answer.Answer → Answer
+toldOf sheet-answer.Done = answer.Done
+toldOf (sheet-answer.Refused why) = answer.Refused (Sheet why)
+
+-- a sheet is written: 14; it hands back no head. The space after the sheet is unchanged, and refused no byte changes
+abbrev pub saveTests : Head → ℕ → Tests
+saveTests h room = (wellformedOf h, Malformed) ∷ (not (ltb room whole), Sheet sheet.Short) ∷ []
+
+unfoldable pub saveOf : Head → ℕ → Answer
+saveOf h room = guarded answer.Refused (saveTests h room) answer.Done
+
+unfoldable pub saveSpaceOf : Head → List ℕ → List ℕ
+saveSpaceOf h space = guarded (λ why. space) (saveTests h (length space)) (sheetOf (h .stored .values) ++ drop whole space)

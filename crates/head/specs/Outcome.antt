@@ -16,29 +16,33 @@ use Rattle.head.specs.declared.calls.Called.{Called}
 use Rattle.head.specs.declared.calls.Heard.{Heard}
 use Rattle.head.specs.declared.calls.Heard.the-variants as heard
 use Rattle.head.specs.Moves.{tickedOf, measuredOf}
-use Rattle.head.specs.Calls.{Tests, byteOf, byteSpaceOf, tickOf, measureOf, keysOf, keysSpaceOf, powerOf}
+use Rattle.head.specs.Calls.{Tests, byteOf, byteSpaceOf, tickOf, measureOf, keysOf, keysSpaceOf, powerOf, sheetTests, loadedOf, loadOf}
 
--- ---- what is asked of a head with no space lent: a tick, a measurement, power
+-- ---- what is asked of a head with no space lent: a tick, a measurement, power, a sheet loaded
 pub data Ask : Type 0 where
   tick : ℕ → Ask
   measure : ℤ → Ask
   power : Ask
+  load : List ℕ → Ask
 
 -- the call; its own tests, after 20; the head that it makes where they hold
 unfoldable pub called : Ask → Head → Called
 called (tick at) h = tickOf h at
 called (measure m) h = measureOf h m
 called power h = powerOf h
+called (load s) h = loadOf h s
 
 unfoldable pub own : Ask → Tests
 own (tick at) = []
 own (measure m) = (inReachOf m, OutOfReach) ∷ []
 own power = []
+own (load s) = sheetTests s
 
 unfoldable pub next : Ask → Head → Head
 next (tick at) h = tickedOf h at
 next (measure m) h = measuredOf h m
 next power h = restartedOf h
+next (load s) h = loadedOf h s
 
 -- ---- every call: a byte at a time, or a key state, with the space lent, or what is asked with none
 pub data Call : Type 0 where

@@ -1,8 +1,9 @@
--- The numbers of the refusals (document 01, "The line, and calls refused").
+-- The numbers of the refusals (document 01, "The line, and calls refused"; sheets: document 02, request (vii)).
 -- Assumes nothing.
 use Prim.Native.Nat.{ℕ}
+use Rattle.sheet.specs.Refusals as sheet
 use Rattle.head.specs.declared.refusal.Refusal.{Refusal}
-use Rattle.head.specs.declared.refusal.Refusal.the-variants.{Node, Full, NoHead, OutOfReach, Keys, Space, Malformed}
+use Rattle.head.specs.declared.refusal.Refusal.the-variants.{Node, Full, NoHead, OutOfReach, Keys, Space, Sheet, Malformed}
 
 abbrev pub refusalOf : Refusal → ℕ
 refusalOf Node = 1
@@ -11,4 +12,5 @@ refusalOf NoHead = 3
 refusalOf OutOfReach = 4
 refusalOf Keys = 5
 refusalOf Space = 6
+refusalOf (Sheet why) = sheet.refusalOf why
 refusalOf Malformed = 20

@@ -4,6 +4,8 @@ use crate::hear::Stepped;
 use crate::moves;
 use crate::refusal::Refusal;
 use effects::restart;
+use sheet::load;
+use sheet::write;
 use state::parts::Head;
 use state::wellformed;
 ghost use mathlib.Core.Path.{_≡_};
@@ -11,7 +13,7 @@ ghost use mathlib.Core.Bool.{Bool};
 ghost use Prim.Native.Nat.{_≤_};
 ghost use lib.ListN.{length};
 ghost use Rattle.effects.specs.Restart.{freshOf};
-ghost use Rattle.head.specs.Calls.{nodeFits, factoryOf, madeOf, doneWith, refusedWith, laidOn, fedWith, unfed, spaceWith, byteOf, byteSpaceOf, tickOf, measureOf, keysOf, keysSpaceOf, powerOf, lastHitOf};
+ghost use Rattle.head.specs.Calls.{nodeFits, factoryOf, madeOf, doneWith, refusedWith, laidOn, fedWith, unfed, spaceWith, byteOf, byteSpaceOf, tickOf, measureOf, keysOf, keysSpaceOf, powerOf, lastHitOf, toldOf, loadOf, saveOf, saveSpaceOf};
 
 pub enum Answer {
     Done,
@@ -202,6 +204,50 @@ pub fn last_hit(h: Head) -> Hit
         return Hit::Bits(f.hit);
     }
     Hit::Refused(Refusal::Malformed)
+}
+
+// What is answered for a sheet.
+fn told(a: sheet::refusal::Answer) -> Answer
+    ensures { λ r. ⌜ r ≡ toldOf a ⌝ }
+{
+    match a {
+        sheet::refusal::Answer::Done => Answer::Done,
+        sheet::refusal::Answer::Refused(why) => Answer::Refused(Refusal::Sheet(why)),
+    }
+}
+
+// A sheet loaded, all or nothing, whatever the interlock: the values that it names, and nothing else of the head.
+pub fn load(h: Head, sheet: &[u8]) -> Called
+    ensures { λ r. ⌜ r ≡ loadOf h (now (sheet .entry)) ⌝ }
+{
+    if wellformed::wellformed(h) {
+        let mut n = h;
+        let mut s = n.stored;
+        let v = s.values;
+        let l = load::load(v, sheet);
+        let w = l.values;
+        let a = l.answer;
+        s.values = w;
+        n.stored = s;
+        return Called {
+            head: n,
+            answer: told(a),
+        };
+    }
+    refused(h, Refusal::Malformed)
+}
+
+// The head's settings written on a sheet at the start of the space; whoever saves changes no head.
+pub fn save(h: Head, space: &mut [u8]) -> Answer
+    ensures { λ r. ⌜ r ≡ saveOf h (length (now (space .entry))) ⌝ }
+    ensures { λ r. ⌜ now (space .exit) ≡ saveSpaceOf h (now (space .entry)) ⌝ }
+{
+    if wellformed::wellformed(h) {
+        let s = h.stored;
+        let v = s.values;
+        return told(write::write(v, space));
+    }
+    Answer::Refused(Refusal::Malformed)
 }
 
 // The node number in force, which a new 00h changes only at a restart.

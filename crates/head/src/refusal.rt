@@ -1,4 +1,4 @@
-// Why a call is refused.
+// Why a call is refused; what is wrong with a sheet, the sheet says.
 ghost use mathlib.Core.Path.{_≡_};
 ghost use Rattle.head.specs.Refusals.{refusalOf};
 
@@ -9,6 +9,7 @@ pub enum Refusal {
     OutOfReach,
     Keys,
     Space,
+    Sheet(sheet::refusal::Refusal),
     Malformed,
 }
 
@@ -38,6 +39,7 @@ impl Refusal {
             Refusal::OutOfReach => Refusal::OUT_OF_REACH,
             Refusal::Keys => Refusal::KEYS,
             Refusal::Space => Refusal::SPACE,
+            Refusal::Sheet(why) => why.number(),
             Refusal::Malformed => Refusal::MALFORMED,
         }
     }

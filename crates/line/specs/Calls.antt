@@ -1,4 +1,4 @@
--- The calls on a line and their refusals (document 01, "The line, and calls refused"; keys: document 02, request (ii)).
+-- The calls on a line and their refusals (document 01, "The line, and calls refused"; keys and sheets: document 02, requests (ii) and (vii)).
 -- Assumes nothing.
 use Prim.Native.Nat.{ℕ, _+_}
 use mathlib.Core.Bool.{Bool, cond, _&&_}
@@ -10,6 +10,7 @@ use Rattle.state.specs.declared.parts.Head.{Head}
 use Rattle.effects.specs.Restart.{freshOf}
 use Rattle.head.specs.declared.refusal.Refusal.{Refusal}
 use Rattle.head.specs.declared.refusal.Refusal.the-variants.{Node, Full, NoHead, Space, Malformed}
+use Rattle.head.specs.declared.calls.Answer.{Answer}
 use Rattle.head.specs.declared.calls.Answer.the-variants as answer
 use Rattle.head.specs.declared.calls.Heard.the-variants as heard
 use Rattle.head.specs.declared.calls.Called as alone
@@ -117,3 +118,14 @@ powerOf l i = namedOf l i (head.powerOf (headAt l i))
 -- the last non-zero exclusive-or of one head: it names the head too, and hands back no line
 unfoldable pub lastHitOf : Line → ℕ → Hit
 lastHitOf l i = guarded hit.Refused (namedTests l i) (head.lastHitOf (headAt l i))
+
+-- a sheet is loaded into one head
+unfoldable pub loadOf : Line → ℕ → List ℕ → Called
+loadOf l i s = namedOf l i (head.loadOf (headAt l i) s)
+
+-- the settings of one head are written on a sheet: it hands back no line, and the space is as that head alone leaves it
+unfoldable pub saveOf : Line → ℕ → ℕ → Answer
+saveOf l i room = guarded answer.Refused (namedTests l i) (head.saveOf (headAt l i) room)
+
+unfoldable pub saveSpaceOf : Line → ℕ → List ℕ → List ℕ
+saveSpaceOf l i space = guarded (λ why. space) (namedTests l i) (head.saveSpaceOf (headAt l i) space)

@@ -1,4 +1,4 @@
-// The calls on a line. 20 goes before all other refusals, 2 before 1, 3 before 4, 5 and 6.
+// The calls on a line. 20 goes before all other refusals, 2 before 1, 3 before 4, 5, 6 and those of a sheet.
 use crate::round;
 use effects::restart;
 use head::calls;
@@ -13,7 +13,7 @@ use state::wellformed;
 ghost use mathlib.Core.Path.{_≡_};
 ghost use mathlib.Core.Bool.{Bool};
 ghost use lib.ListN.{length};
-ghost use Rattle.line.specs.Calls.{emptyOf, fitsOf, doneWith, refusedWith, headAt, placedOf, growOf, byteOf, byteSpaceOf, tickOf, namedOf, measureOf, unfed, keysOf, keysSpaceOf, powerOf, lastHitOf};
+ghost use Rattle.line.specs.Calls.{emptyOf, fitsOf, doneWith, refusedWith, headAt, placedOf, growOf, byteOf, byteSpaceOf, tickOf, namedOf, measureOf, unfed, keysOf, keysSpaceOf, powerOf, lastHitOf, loadOf, saveOf, saveSpaceOf};
 
 // Eight places for heads, of which the first `count` are on the wire.
 #[repr(C)]
@@ -268,4 +268,25 @@ pub fn last_hit(l: Line, i: usize) -> Hit
         return Hit::Refused(Refusal::NoHead);
     }
     Hit::Refused(Refusal::Malformed)
+}
+
+// A sheet loaded into one head.
+pub fn load(l: Line, i: usize, sheet: &[u8]) -> Called
+    ensures { λ r. ⌜ r ≡ loadOf l i (now (sheet .entry)) ⌝ }
+{
+    named(l, i, calls::load(head_at(l, i), sheet))
+}
+
+// The settings of one head written on a sheet at the start of the space: 20, then 3, then what the head alone writes.
+pub fn save(l: Line, i: usize, space: &mut [u8]) -> Answer
+    ensures { λ r. ⌜ r ≡ saveOf l i (length (now (space .entry))) ⌝ }
+    ensures { λ r. ⌜ now (space .exit) ≡ saveSpaceOf l i (now (space .entry)) ⌝ }
+{
+    if fits(l) {
+        if i < l.count {
+            return calls::save(head_at(l, i), space);
+        }
+        return Answer::Refused(Refusal::NoHead);
+    }
+    Answer::Refused(Refusal::Malformed)
 }

@@ -2,13 +2,13 @@
 -- all numbers of a span, computed. And the laws: each address is in exactly one group, and the groups agree with the table.
 -- Assumes nothing.
 use mathlib.Core.Path.{_≡_, refl, sym, _∙_, ap}
-use mathlib.Core.Bool.{Bool, true, false, cond, not, _&&_}
-use mathlib.Core.List.{List, [], _∷_}
+use mathlib.Core.Bool.{Bool, true, false, cond, not, _&&_, _||_}
+use mathlib.Core.List.{List, [], _∷_, map}
 use mathlib.Core.Logic.{_⊎_, inl, inr, ⊎-elim}
 use Prim.Native.Nat.{ℕ, zero, suc, _+_, _-_, _<_, _≤_}
 use native.Mathlib.Omega.{arith}
 use lib.Dec.{T, eqb, leb, ltb, eqb→eq}
-use borrow.Author.Tests.{eqb-false, le-leb, le-ltb, ltb-true, ltb-false, ne-eqb, not-true}
+use borrow.Author.Tests.{eqb-true, eqb-false, eq-eqb, le-leb, le-ltb, ltb-true, ltb-false, ne-eqb, not-true}
 use Rattle.rows.specs.declared.access.Access.{Access}
 use Rattle.rows.specs.declared.access.Access.the-variants.{ReadWrite, ReadOnly, WriteOnly, Unknown}
 use Rattle.rows.specs.declared.kind.Kind.{Kind}
@@ -17,10 +17,11 @@ use Rattle.rows.specs.declared.kind.Shown.{Shown}
 use Rattle.rows.specs.declared.kind.Shown.the-variants.{Identification, Version, ErrorCount, ErrorAt, InputErrors, StatusWord, Differential, Pending, Position}
 use Rattle.rows.specs.declared.kind.Order.{Order}
 use Rattle.rows.specs.declared.kind.Order.the-variants.{System, Calibration, Interlock, Freezing, Assignment}
+use Rattle.rows.specs.declared.table.Row.{Row}
 use Rattle.rows.specs.declared.table.Place.{Place}
 use Rattle.rows.specs.declared.table.Place.the-variants.{At, Nowhere}
 use Rattle.rows.specs.Among.{among}
-use Rattle.rows.specs.Table.{rows, rowOf, placeOf}
+use Rattle.rows.specs.Table.{address, rows, rowOf, placeIn, placeOf, isAt}
 use Rattle.rows.specs.Access.{stored, setPoints, readOnly, writeOnly, accessOf}
 use Rattle.rows.specs.Kinds.{otherOf, kindOf, groupOf}
 use Rattle.rows.specs.Resets.{busOf}
@@ -168,16 +169,27 @@ unfolding kindOf otherOf placeOf accessOf rows
 group-agrees a h = same (groupOf (kindOf a)) a (in-span (λ k. is (groupOf (kindOf k)) k) 0 256 tt a (omega arith) (omega arith))
 
 -- an address is one of the 39 exactly where it has a place in the table
-abbrev pub isAt : Place → Bool
-isAt (At i) = true
-isAt Nowhere = false
+eqb-turned : (a b : ℕ) → eqb a b ≡ eqb b a
+eqb-turned a b = go (eqb b a) refl
+  where
+    go : (t : Bool) → eqb b a ≡ t → eqb a b ≡ t
+    go true e = eq-eqb a b (sym (eqb-true b a e))
+    go false e = ne-eqb a b (λ q. eqb-false b a e (sym q))
 
-agree : (x y : Bool) → T (cond x y (not y)) → x ≡ y
-agree true true t = refl
-agree true false t = absurd t
-agree false true t = absurd t
-agree false false t = refl
+among-more : (x : ℕ) (xs : List ℕ) (a : ℕ) → among (x ∷ xs) a ≡ (eqb a x || among xs a)
+among-more x [] a = elim (eqb a x) as (λ b. b ≡ (b || false)) [ true ↦ refl | false ↦ refl ]
+among-more x (y ∷ xs) a = refl
 
-pub stored-at : (a : ℕ) → a < 256 → among stored a ≡ isAt (placeOf a)
-unfolding placeOf rows
-stored-at a h = agree _ _ (in-span (λ k. cond (among stored k) (isAt (placeOf k)) (not (isAt (placeOf k)))) 0 256 tt a (omega arith) (omega arith))
+among-found : (rs : List Row) (i a : ℕ) → among (map address rs) a ≡ isAt (placeIn rs i a)
+among-found [] i a = refl
+among-found (r ∷ rs) i a =
+    rw (among-more (address r) (map address rs) a, eqb-turned a (address r)) (go (eqb (address r) a) (among-found rs (suc i) a))
+  where
+    go : (b : Bool) → among (map address rs) a ≡ isAt (placeIn rs (suc i) a)
+        → (b || among (map address rs) a) ≡ isAt (cond b (At i) (placeIn rs (suc i) a))
+    go true e = refl
+    go false e = e
+
+pub stored-at : (a : ℕ) → among stored a ≡ isAt (placeOf a)
+unfolding placeOf
+stored-at a = among-found rows 0 a

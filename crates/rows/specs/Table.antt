@@ -1,7 +1,7 @@
 -- The 39 rows of limits and delivery values (document 01, "Stored parameters").
 -- Assumes nothing.
 use Prim.Native.Nat.{ℕ, suc}
-use mathlib.Core.Bool.{cond}
+use mathlib.Core.Bool.{Bool, true, false, cond}
 use mathlib.Core.List.{List, [], _∷_}
 use lib.Dec.{eqb}
 use lib.IntN.{ℤ, pos}
@@ -85,3 +85,8 @@ placeIn (r ∷ rs) i a = cond (eqb (address r) a) (At i) (placeIn rs (suc i) a)
 
 unfoldable pub placeOf : ℕ → Place
 placeOf a = placeIn rows 0 a
+
+-- there is one
+abbrev pub isAt : Place → Bool
+isAt (At i) = true
+isAt Nowhere = false

@@ -6,15 +6,14 @@ use mathlib.Core.Bool.{true}
 use mathlib.Core.List.{List, [], _∷_}
 use lib.IntN.{pos, negsuc}
 use Rattle.script.specs.declared.Command.{Command}
-use Rattle.script.specs.declared.Command.the-variants.{Blank, Malformed, Grow, Send, Tick, Measure, Keys, Power, Space, Xor, Ask}
-use Rattle.script.specs.declared.arguments.Last.the-variants.{Nothing, PerhapsBytes}
+use Rattle.script.specs.declared.Command.the-variants.{Blank, Malformed, Grow, Send, Tick, Measure, Keys, Power, Space, Xor, Ask, Save, Load}
+use Rattle.script.specs.declared.arguments.Last.the-variants.{Nothing}
 use Rattle.text.specs.Text.{text}
 use Rattle.text.specs.Lines.{bareOf}
 use Rattle.script.specs.Words.{wordsOf, sameOf}
 use Rattle.text.specs.Numbers.{numberOf, signedOf, hexOf, countOf, pairOf}
 use Rattle.script.specs.Arguments.{takesOf, givenOf, unfitOf, lastOf, argumentsOf}
-use Rattle.script.specs.Meaning.{nameOf, orderOf, commandOf, spokenOf, meaningOf, byteAtOf}
-use Rattle.script.proofs.Sent.{read}
+use Rattle.script.specs.Meaning.{nameOf, orderOf, commandOf, spokenOf, meaningOf, byteAtOf, read}
 
 record Case : Type 0 where
   line : String
@@ -62,8 +61,8 @@ cases =
     ∷ "power 0" says Power 0
     ∷ "power 0 0" says Malformed
     ∷ "Power 0" says Malformed
-    ∷ "space 64" says Space 64
-    ∷ "space 65" says Malformed
+    ∷ "space 1024" says Space 1024
+    ∷ "space 1025" says Malformed
     ∷ "xor 4294967295" says Xor 4294967295
     ∷ "xor 4294967296" says Malformed
     ∷ "xor" says Malformed
@@ -81,6 +80,18 @@ cases =
     ∷ "ask 0 0 0 0 0" says Malformed
     ∷ "ask 0 0 0 0 0 0 0" says Malformed
     ∷ "Ask 0 0 0 0 0 0" says Malformed
+    ∷ "save 0" says Save 0
+    ∷ "save 4294967296" says Malformed
+    ∷ "save" says Malformed
+    ∷ "save 0 1" says Malformed
+    ∷ "load 0 00" says Load 0 7 1
+    ∷ "load 1" says Load 1 0 0
+    ∷ "load 4294967295  53Aa4E \r" says Load 4294967295 17 3
+    ∷ "load 4294967296 00" says Malformed
+    ∷ "load 0 0" says Malformed
+    ∷ "load 0 0G" says Malformed
+    ∷ "load 0 00 00" says Malformed
+    ∷ "load" says Malformed
     ∷ "  # note" says Blank
     ∷ "\r" says Blank
     ∷ "" says Blank
@@ -88,20 +99,7 @@ cases =
 
 hold : Hold cases
 unfolding wordsOf bareOf sameOf numberOf signedOf hexOf countOf lastOf argumentsOf nameOf orderOf commandOf spokenOf meaningOf
-hold = (refl, (refl, (refl, (refl, (refl, (refl, (refl, (refl, (refl, (refl, (refl, (refl, (refl, (refl, (refl, (refl, (refl, (refl, (refl, (refl, (refl, (refl, (refl, (refl, (refl, (refl, (refl, (refl, (refl, (refl, (refl, (refl, (refl, (refl, (refl, (refl, (refl, (refl, (refl, (refl, (refl, (refl, (refl, (refl, (refl, (refl, (refl, (refl, (refl, (refl, (refl, (refl, (refl, (refl, tt))))))))))))))))))))))))))))))))))))))))))))))))))))))
-
--- bytes that may be left out
-left-out : argumentsOf (takesOf (9 ∷ []) PerhapsBytes) (wordsOf (text "7")) ≡ givenOf true (7 ∷ 0 ∷ 0 ∷ 0 ∷ 0 ∷ 0 ∷ []) (pos 0) 0 0
-unfolding wordsOf numberOf lastOf argumentsOf
-left-out = refl
-
-given : argumentsOf (takesOf (9 ∷ []) PerhapsBytes) (wordsOf (text "7 1F2A")) ≡ givenOf true (7 ∷ 0 ∷ 0 ∷ 0 ∷ 0 ∷ 0 ∷ []) (pos 0) 2 2
-unfolding wordsOf numberOf hexOf countOf lastOf argumentsOf
-given = refl
-
-refused : argumentsOf (takesOf (9 ∷ []) PerhapsBytes) (wordsOf (text "7 1F2")) ≡ unfitOf
-unfolding wordsOf numberOf hexOf countOf lastOf argumentsOf
-refused = refl
+hold = (refl, (refl, (refl, (refl, (refl, (refl, (refl, (refl, (refl, (refl, (refl, (refl, (refl, (refl, (refl, (refl, (refl, (refl, (refl, (refl, (refl, (refl, (refl, (refl, (refl, (refl, (refl, (refl, (refl, (refl, (refl, (refl, (refl, (refl, (refl, (refl, (refl, (refl, (refl, (refl, (refl, (refl, (refl, (refl, (refl, (refl, (refl, (refl, (refl, (refl, (refl, (refl, (refl, (refl, (refl, (refl, (refl, (refl, (refl, (refl, (refl, (refl, (refl, (refl, (refl, (refl, tt))))))))))))))))))))))))))))))))))))))))))))))))))))))))))))))))))
 
 -- as many numbers as there may be, each in its place and up to its own limit
 six : argumentsOf (takesOf (1 ∷ 2 ∷ 3 ∷ 4 ∷ 5 ∷ 6 ∷ []) Nothing) (wordsOf (text "1 2 3 4 5 6")) ≡ givenOf true (1 ∷ 2 ∷ 3 ∷ 4 ∷ 5 ∷ 6 ∷ []) (pos 0) 0 0

@@ -2,5 +2,5 @@ pub mod Split
 pub mod Taken
 pub mod Orders
 pub mod Told
-pub mod Sent
+pub mod Carried
 pub mod Examples

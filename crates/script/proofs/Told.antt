@@ -1,12 +1,13 @@
--- What a `Send`, a `Space` and an `Ask` tell of the words that they came from, and that a line too long is none: a property that holds of every
--- way to a command is followed down the definition.
+-- What a `Send`, a `Load`, a `Space` and an `Ask` tell of the words that they came from, and that a line too long is none: a property that holds
+-- of every way to a command is followed down the definition.
 -- Assumes nothing.
 use Prim.Native.Nat.{ℕ, suc, _<_, _≤_}
 use native.Mathlib.Omega.{arith}
 use mathlib.Core.Path.{_≡_, refl, subst}
+use mathlib.Core.Logic.{_⊎_, inl, inr}
 use mathlib.Core.Bool.{Bool, true, false, cond}
 use mathlib.Core.List.{List, [], _∷_}
-use borrow.Author.Tests.{eqb-false, lt-ltb}
+use borrow.Author.Tests.{eqb-false, ltb-false, lt-ltb}
 use lib.Dec.{ltb, eqb}
 use lib.IntN.{pos}
 use lib.ListN.{length, set}
@@ -17,26 +18,35 @@ use Rattle.script.specs.declared.Name.the-variants as name
 use Rattle.text.specs.declared.numbers.Number.{Number}
 use Rattle.text.specs.declared.numbers.Number.the-variants as number
 use Rattle.script.specs.declared.arguments.Arguments.{Arguments}
+use Rattle.script.specs.declared.arguments.Last.{Last}
 use Rattle.script.specs.declared.arguments.Last.the-variants as last
 use Rattle.text.specs.Lines.{bareOf}
 use Rattle.script.specs.Words.{Word, wordsOf}
 use Rattle.text.specs.Numbers.{numberOf, countOf}
-use Rattle.script.specs.Arguments.{noNumbers, givenOf, unfitOf, ifNumber, ifSome, lastOf, argumentsFrom, argumentsOf}
+use Rattle.script.specs.Arguments.{noNumbers, givenOf, unfitOf, ifNumber, lastOf, argumentsFrom, argumentsOf}
 use Rattle.script.specs.Meaning.{whole, byte, half, largestSpace, longest, rowOf, ifFit, isNote, nameOf, orderOf, commandOf, spokenOf, meaningOf}
 use Rattle.text.proofs.Spelled.{number-within}
 use Rattle.text.proofs.Bare.{bare-long}
 
--- the words of a `Send`
-pub record Sending (ws : List Word) (time from count : ℕ) : Type 0 where
+-- the words of a command of the name `n` that takes a number and bytes, and of one whose bytes are left out
+pub record Carrying (n : Name) (ws : List Word) (said from count : ℕ) : Type 0 where
   pub first : Word
   pub second : Word
   pub third : Word
   pub words : ws ≡ first ∷ second ∷ third ∷ []
-  pub called : nameOf (first .chars) ≡ name.Send
-  pub timed : numberOf whole (second .chars) ≡ number.Is time
+  pub called : nameOf (first .chars) ≡ n
+  pub numbered : numberOf whole (second .chars) ≡ number.Is said
   pub starts : third .start ≡ from
   pub counts : countOf (third .chars) ≡ count
   pub some : count ≡ 0 → ⊥
+
+pub record Without (n : Name) (ws : List Word) (said count : ℕ) : Type 0 where
+  pub first : Word
+  pub second : Word
+  pub words : ws ≡ first ∷ second ∷ []
+  pub called : nameOf (first .chars) ≡ n
+  pub numbered : numberOf whole (second .chars) ≡ number.Is said
+  pub none : count ≡ 0
 
 -- numbers that the fields of a telegram can hold
 pub record Asking (c n p w : ℕ) : Type 0 where
@@ -50,7 +60,7 @@ abbrev Told : List Word → Command → Type 0
 Told ws command.Blank = Unit {0}
 Told ws command.Malformed = Unit {0}
 Told ws (command.Grow n) = Unit {0}
-Told ws (command.Send t from n) = Sending ws t from n
+Told ws (command.Send t from n) = Carrying name.Send ws t from n
 Told ws (command.Tick t) = Unit {0}
 Told ws (command.Measure h v) = Unit {0}
 Told ws (command.Keys h s) = Unit {0}
@@ -58,6 +68,8 @@ Told ws (command.Power h) = Unit {0}
 Told ws (command.Space n) = n ≤ largestSpace
 Told ws (command.Xor h) = Unit {0}
 Told ws (command.Ask t c n p w d) = Asking c n p w
+Told ws (command.Save h) = Unit {0}
+Told ws (command.Load h from n) = Carrying name.Load ws h from n ⊎ Without name.Load ws h n
 
 of-test : (from : List Word) (b : Bool) (c d : Command) → Told from c → Told from d → Told from (cond b c d)
 of-test from true c d p q = p
@@ -71,43 +83,64 @@ order n a = ifFit a (rowOf n .made a)
 of-fit : (from : List Word) (a : Arguments) (c : Command) → Told from c → Told from (ifFit a c)
 of-fit from a c h = of-test from (a .fit) c command.Malformed h tt
 
--- one number, and what comes after it
-abbrev alone : ℕ → List ℕ
-alone n = set noNumbers 0 n
-
-of-bytes : (from : List Word) (time start n : ℕ) → ((n ≡ 0 → ⊥) → Sending from time start n)
-    → Told from (order name.Send (ifSome n (givenOf true (alone time) (pos 0) start)))
-of-bytes from time start n h = go (eqb n 0) refl
-  where
-    go : (b : Bool) → eqb n 0 ≡ b → Told from (order name.Send (cond b unfitOf (givenOf true (alone time) (pos 0) start n)))
-    go true e = tt
-    go false e = h (eqb-false n 0 e)
-
-told-send : (w : Word) (ws : List Word) → nameOf (w .chars) ≡ name.Send → Told (w ∷ ws) (orderOf name.Send ws)
-unfolding orderOf argumentsOf lastOf
-told-send w [] e = tt
-told-send w (a ∷ ws) e = read (numberOf whole (a .chars)) refl ws
-  where
-    read : (r : Number) → numberOf whole (a .chars) ≡ r → (ws : List Word)
-        → Told (w ∷ a ∷ ws) (order name.Send (ifNumber r (λ (t : ℕ). lastOf last.Bytes (alone t) ws)))
-    read number.Unfit k ws = tt
-    read (number.Is t) k [] = tt
-    read (number.Is t) k (b ∷ []) =
-        of-bytes (w ∷ a ∷ b ∷ []) t (b .start) (countOf (b .chars)) (λ z.
-        record { first = w; second = a; third = b; words = refl; called = e; timed = k; starts = refl; counts = refl; some = z })
-    read (number.Is t) k (b ∷ c ∷ ws) = tt
-
 -- the next number, and what comes after it
-of-next : (from : List Word) (n : Name) (i limit : ℕ) (numbers limits : List ℕ) (ws : List Word)
-    → ((k : ℕ) → k ≤ limit → (vs : List Word) → Told from (order n (argumentsFrom (suc i) (set numbers i k) limits last.Nothing vs)))
-    → Told from (order n (argumentsFrom i numbers (limit ∷ limits) last.Nothing ws))
-of-next from n i limit numbers limits [] h = tt
-of-next from n i limit numbers limits (w ∷ ws) h = read (numberOf limit (w .chars)) refl
+of-next : (from : List Word) (n : Name) (after : Last) (i limit : ℕ) (numbers limits : List ℕ) (ws : List Word)
+    → ((w : Word) (k : ℕ) (vs : List Word) → ws ≡ w ∷ vs → numberOf limit (w .chars) ≡ number.Is k
+    → Told from (order n (argumentsFrom (suc i) (set numbers i k) limits after vs)))
+    → Told from (order n (argumentsFrom i numbers (limit ∷ limits) after ws))
+of-next from n after i limit numbers limits [] h = tt
+of-next from n after i limit numbers limits (w ∷ ws) h = read (numberOf limit (w .chars)) refl
   where
     read : (r : Number) → numberOf limit (w .chars) ≡ r
-        → Told from (order n (ifNumber r (λ (k : ℕ). argumentsFrom (suc i) (set numbers i k) limits last.Nothing ws)))
+        → Told from (order n (ifNumber r (λ (k : ℕ). argumentsFrom (suc i) (set numbers i k) limits after ws)))
     read number.Unfit e = tt
-    read (number.Is k) e = h k (number-within limit (w .chars) e) ws
+    read (number.Is k) e = h w k ws refl e
+
+-- bytes, at least one: the only word that is left
+of-bytes : (from : List Word) (n : Name) (numbers : List ℕ) (ws : List Word)
+    → ((b : Word) → ws ≡ b ∷ [] → (countOf (b .chars) ≡ 0 → ⊥)
+    → Told from (rowOf n .made (givenOf true numbers (pos 0) (b .start) (countOf (b .chars)))))
+    → Told from (order n (lastOf last.Bytes numbers ws))
+unfolding lastOf
+of-bytes from n numbers [] h = tt
+of-bytes from n numbers (b ∷ []) h = go (eqb (countOf (b .chars)) 0) refl
+  where
+    go : (t : Bool) → eqb (countOf (b .chars)) 0 ≡ t
+        → Told from (order n (cond t unfitOf (givenOf true numbers (pos 0) (b .start) (countOf (b .chars)))))
+    go true e = tt
+    go false e = h b refl (eqb-false (countOf (b .chars)) 0 e)
+of-bytes from n numbers (b ∷ c ∷ ws) h = tt
+
+-- the words of a command that takes a number and bytes, put together
+carries : {w a b : Word} {ws vs : List Word} {n : Name} {k : ℕ} → nameOf (w .chars) ≡ n → ws ≡ a ∷ vs → numberOf whole (a .chars) ≡ number.Is k
+    → vs ≡ b ∷ [] → (countOf (b .chars) ≡ 0 → ⊥) → Carrying n (w ∷ ws) k (b .start) (countOf (b .chars))
+carries {w} {a} {b} e is k sole z =
+    record {
+      first = w;
+      second = a;
+      third = b;
+      words = rw (is, sole);
+      called = e;
+      numbered = k;
+      starts = refl;
+      counts = refl;
+      some = z;
+    }
+
+told-send : (w : Word) (ws : List Word) → nameOf (w .chars) ≡ name.Send → Told (w ∷ ws) (orderOf name.Send ws)
+unfolding orderOf argumentsOf
+told-send w ws e =
+    of-next (w ∷ ws) name.Send last.Bytes 0 whole noNumbers [] ws (λ a t vs is k.
+    of-bytes (w ∷ ws) name.Send (set noNumbers 0 t) vs (λ b sole z. carries e is k sole z))
+
+told-load : (w : Word) (ws : List Word) → nameOf (w .chars) ≡ name.Load → Told (w ∷ ws) (orderOf name.Load ws)
+unfolding orderOf argumentsOf lastOf
+told-load w ws e = of-next (w ∷ ws) name.Load last.PerhapsBytes 0 whole noNumbers [] ws after
+  where
+    after : (a : Word) (h : ℕ) (vs : List Word) → ws ≡ a ∷ vs → numberOf whole (a .chars) ≡ number.Is h
+        → Told (w ∷ ws) (order name.Load (lastOf last.PerhapsBytes (set noNumbers 0 h) vs))
+    after a h [] is k = inr (record { first = w; second = a; words = rw is; called = e; numbered = k; none = refl })
+    after a h (b ∷ vs) is k = of-bytes (w ∷ ws) name.Load (set noNumbers 0 h) (b ∷ vs) (λ c sole z. inl (carries e is k sole z))
 
 -- a property of any numbers, each up to its limit and in its place: number `i` and those that follow
 abbrev Any : (List ℕ → Type 0) → ℕ → List ℕ → List ℕ → Type 0
@@ -122,7 +155,8 @@ unfolding lastOf
 of-numbers from n i numbers [] [] h = h
 of-numbers from n i numbers [] (w ∷ ws) h = tt
 of-numbers from n i numbers (limit ∷ limits) ws h =
-    of-next from n i limit numbers limits ws (λ k b vs. of-numbers from n (suc i) (set numbers i k) limits vs (h k b))
+    of-next from n last.Nothing i limit numbers limits ws (λ w k vs is e.
+    of-numbers from n (suc i) (set numbers i k) limits vs (h k (number-within limit (w .chars) e)))
 
 told-space : (w : Word) (ws : List Word) → Told (w ∷ ws) (orderOf name.Space ws)
 unfolding orderOf argumentsOf
@@ -146,6 +180,8 @@ told-order w ws name.Power e = of-fit (w ∷ ws) (argumentsOf (rowOf name.Power 
 told-order w ws name.Space e = told-space w ws
 told-order w ws name.Xor e = of-fit (w ∷ ws) (argumentsOf (rowOf name.Xor .takes) ws) _ tt
 told-order w ws name.Ask e = told-ask w ws
+told-order w ws name.Save e = of-fit (w ∷ ws) (argumentsOf (rowOf name.Save .takes) ws) _ tt
+told-order w ws name.Load e = told-load w ws e
 
 told-command : (ws : List Word) → Told ws (commandOf ws)
 unfolding commandOf
@@ -158,11 +194,16 @@ told line =
     let ws = wordsOf (bareOf line) in
     of-test ws (ltb longest (length (bareOf line))) command.Malformed (commandOf ws) tt (told-command ws)
 
+-- the words of a `Send`, and of a `Load`
 pub sending : (line : List ℕ) {time from count : ℕ} → meaningOf line ≡ command.Send time from count
-    → Sending (wordsOf (bareOf line)) time from count
+    → Carrying name.Send (wordsOf (bareOf line)) time from count
 sending line e = subst (Told (wordsOf (bareOf line))) e (told line)
 
--- a `Space` is no more than 64
+pub loading : (line : List ℕ) {at from count : ℕ} → meaningOf line ≡ command.Load at from count
+    → Carrying name.Load (wordsOf (bareOf line)) at from count ⊎ Without name.Load (wordsOf (bareOf line)) at count
+loading line e = subst (Told (wordsOf (bareOf line))) e (told line)
+
+-- a `Space` is no more than 1,024
 pub space-within : (line : List ℕ) {size : ℕ} → meaningOf line ≡ command.Space size → size ≤ largestSpace
 space-within line e = subst (Told (wordsOf (bareOf line))) e (told line)
 
@@ -174,3 +215,13 @@ asking line e = subst (Told (wordsOf (bareOf line))) e (told line)
 pub too-long : (line : List ℕ) → suc longest < length line → meaningOf line ≡ command.Malformed
 unfolding meaningOf spokenOf
 too-long line h = let k = bare-long line in simp (lt-ltb longest (length (bareOf line)) (omega arith))
+
+-- a command stands in a line that is not too long
+pub not-too-long : (line : List ℕ) → (meaningOf line ≡ command.Malformed → ⊥) → length (bareOf line) ≤ longest
+unfolding meaningOf spokenOf
+not-too-long line h = go (ltb longest (length (bareOf line))) refl h
+  where
+    go : (t : Bool) → ltb longest (length (bareOf line)) ≡ t → (cond t command.Malformed (commandOf (wordsOf (bareOf line))) ≡ command.Malformed → ⊥)
+        → length (bareOf line) ≤ longest
+    go true e k = absurd (k refl)
+    go false e k = ltb-false longest (length (bareOf line)) e

@@ -1,6 +1,6 @@
 -- What a line of a simulator script means: a row for each command, found by the line's first word; it says what the words after that are read as.
 -- Assumes nothing.
-use Prim.Native.Nat.{ℕ, _+_, _*_}
+use Prim.Native.Nat.{ℕ, zero, suc, _+_, _*_}
 use Prim.Native.Char.{code}
 use Prim.Native.String.{String}
 use mathlib.Core.Bool.{Bool, cond}
@@ -32,9 +32,9 @@ byte = 255
 abbrev pub half : ℕ
 half = 65535
 
--- the most reply space
+-- the most space that can be lent
 abbrev pub largestSpace : ℕ
-largestSpace = 64
+largestSpace = 1024
 
 -- a command: its word, what it takes, and what it is, made of what the words after its own say
 pub record Row : Type 0 where
@@ -47,7 +47,7 @@ abbrev row : String → List ℕ → Last → (Arguments → Command) → Row
 row word limits after made = record { word = word; takes = takesOf limits after; made = made }
 
 -- any other word, which makes no command, then head NODE, send TIME HEX, tick TIME, measure HEAD VALUE, keys HEAD STATE, power HEAD, space SIZE,
--- xor HEAD, ask TIME COMMAND NODE PARAMETER WORD DATA
+-- xor HEAD, ask TIME COMMAND NODE PARAMETER WORD DATA, save HEAD, load HEAD HEX, of which HEX may be left out
 abbrev pub rowOf : Name → Row
 rowOf name.Other = row "" [] last.Nothing (λ a. command.Malformed)
 rowOf name.Head = row "head" (whole ∷ []) last.Nothing (λ a. command.Grow (a .first))
@@ -61,10 +61,24 @@ rowOf name.Xor = row "xor" (whole ∷ []) last.Nothing (λ a. command.Xor (a .fi
 rowOf name.Ask =
     row "ask" (whole ∷ byte ∷ byte ∷ byte ∷ half ∷ whole ∷ []) last.Nothing
     (λ a. command.Ask (a .first) (a .second) (a .third) (a .fourth) (a .fifth) (a .sixth))
+rowOf name.Save = row "save" (whole ∷ []) last.Nothing (λ a. command.Save (a .first))
+rowOf name.Load = row "load" (whole ∷ []) last.PerhapsBytes (λ a. command.Load (a .first) (a .from) (a .count))
 
 -- the command whose word it is, in lower case; of the names gone through, `found` is the one so far
 abbrev pub names : List Name
-names = name.Head ∷ name.Send ∷ name.Tick ∷ name.Measure ∷ name.Keys ∷ name.Power ∷ name.Space ∷ name.Xor ∷ name.Ask ∷ []
+names =
+    name.Head
+    ∷ name.Send
+    ∷ name.Tick
+    ∷ name.Measure
+    ∷ name.Keys
+    ∷ name.Power
+    ∷ name.Space
+    ∷ name.Xor
+    ∷ name.Ask
+    ∷ name.Save
+    ∷ name.Load
+    ∷ []
 
 abbrev nameIn : Name → List Name → List ℕ → Name
 nameIn found [] w = found
@@ -105,3 +119,8 @@ meaningOf line = spokenOf (bareOf line)
 -- byte `i` of the hex digits that start at the place `from`, 0 where there are no two hex digits
 unfoldable pub byteAtOf : List ℕ → ℕ → ℕ → ℕ
 byteAtOf line from i = pairOf (getD line (from + 2 * i) 0) (getD line (from + 2 * i + 1) 0)
+
+-- the first `n` bytes, read one after another
+abbrev pub read : (ℕ → ℕ) → ℕ → List ℕ
+read f zero = []
+read f (suc n) = f 0 ∷ read (λ (i : ℕ). f (suc i)) n

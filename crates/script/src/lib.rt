@@ -21,14 +21,14 @@ const BYTE: u32 = 255;
 
 const HALF: u32 = 65_535;
 
-// The most reply space.
-const LARGEST_SPACE: u32 = 64;
+// The most space that can be lent.
+const LARGEST_SPACE: u32 = 1024;
 
 // How long a line may be.
 const LONGEST: usize = 4096;
 
-// What a line means: nothing to do, none of the commands, or a command. The bytes of a `Send` stay in the line: their digits start at the place
-// `from`, and `byte_at` reads them.
+// What a line means: nothing to do, none of the commands, or a command. The bytes of a `Send` and of a `Load` stay in the line: their digits start
+// at the place `from`, and `byte_at` reads them.
 pub enum Command {
     Blank,
     Malformed,
@@ -58,6 +58,12 @@ pub enum Command {
         word: u32,
         data: u32,
     },
+    Save(u32),
+    Load {
+        head: u32,
+        from: usize,
+        count: usize,
+    },
 }
 
 // The command word, or any other.
@@ -72,6 +78,8 @@ enum Name {
     Space,
     Xor,
     Ask,
+    Save,
+    Load,
 }
 
 // What a line without its newline means. One of more than 4,097 bytes is malformed whatever it holds, so that its first 4,098 bytes do for it.
@@ -135,7 +143,9 @@ fn named(word: &[u8]) -> Name
     let power = called(word, b"power", Name::Power, keys);
     let space = called(word, b"space", Name::Space, power);
     let xor = called(word, b"xor", Name::Xor, space);
-    called(word, b"ask", Name::Ask, xor)
+    let ask = called(word, b"ask", Name::Ask, xor);
+    let save = called(word, b"save", Name::Save, ask);
+    called(word, b"load", Name::Load, save)
 }
 
 // The command of that name with the words from the place `from` on.
@@ -165,6 +175,8 @@ fn takes(name: Name) -> Takes
         Name::Space => Takes([LARGEST_SPACE, 0, 0, 0, 0, 0], 1, Last::Nothing),
         Name::Xor => Takes([WHOLE, 0, 0, 0, 0, 0], 1, Last::Nothing),
         Name::Ask => Takes([WHOLE, BYTE, BYTE, BYTE, HALF, WHOLE], 6, Last::Nothing),
+        Name::Save => Takes([WHOLE, 0, 0, 0, 0, 0], 1, Last::Nothing),
+        Name::Load => Takes([WHOLE, 0, 0, 0, 0, 0], 1, Last::PerhapsBytes),
     }
 }
 
@@ -199,6 +211,12 @@ fn made(name: Name, a: Arguments) -> Command
             parameter: a.fourth,
             word: a.fifth,
             data: a.sixth,
+        },
+        Name::Save => Command::Save(a.first),
+        Name::Load => Command::Load {
+            head: a.first,
+            from: a.from,
+            count: a.count,
         },
     }
 }

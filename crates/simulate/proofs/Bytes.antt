@@ -23,8 +23,8 @@ module _ (nth : ℕ → ℕ) (time room : ℕ) (l₀ : Line) where
   unfolding fedOf
   fed-next i called byte lent before = rw add-one (ap (λ (r : Fed). r .line) called ∙ rw (byte, lent, before))
 
--- of 64 bytes as many are lent as there is room
-pub feeds : (d : Desk) (nth : ℕ → ℕ) (time count : ℕ) {size : ℕ} {l : Line} → size ≡ roomOf (d .space) → size ≤ 64
-    → l ≡ fedOf nth time (length (take size (replicate {A = ℕ} 64 0))) (d .line) count → leftOf d l ≡ feedOf d nth time count
+-- of 1,024 bytes as many are lent as there is room
+pub feeds : (d : Desk) (nth : ℕ → ℕ) (time count : ℕ) {size : ℕ} {l : Line} → size ≡ roomOf (d .space) → size ≤ 1024
+    → l ≡ fedOf nth time (length (take size (replicate {A = ℕ} 1024 0))) (d .line) count → leftOf d l ≡ feedOf d nth time count
 unfolding feedOf
-feeds d nth time count {size} room within fed = rw (fed, length-take-le {A = ℕ} size (replicate 64 0) within, room)
+feeds d nth time count {size} room within fed = rw (fed, length-take-le {A = ℕ} size (replicate 1024 0) within, room)

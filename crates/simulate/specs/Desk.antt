@@ -11,13 +11,14 @@ use Rattle.master.specs.declared.Answer.the-variants as answer
 use Rattle.master.specs.Master.{builtOf}
 use Rattle.line.specs.declared.calls.Line.{Line}
 use Rattle.line.specs.declared.calls.Called.{Called}
-use Rattle.line.specs.Calls.{emptyOf, growOf, tickOf, measureOf, keysOf, powerOf}
+use Rattle.line.specs.Calls.{emptyOf, growOf, tickOf, measureOf, keysOf, powerOf, loadOf}
 use Rattle.script.specs.declared.Command.{Command}
 use Rattle.script.specs.declared.Command.the-variants as command
 use Rattle.script.specs.Meaning.{meaningOf, byteAtOf, largestSpace}
 use Rattle.simulate.specs.declared.desk.Desk.{Desk}
 use Rattle.simulate.specs.Ask.{questionOf}
 use Rattle.simulate.specs.Feeding.{fedOf}
+use Rattle.simulate.specs.Sheets.{broughtOf}
 
 -- no head, and space for one reply
 unfoldable pub deskOf : Desk
@@ -60,7 +61,7 @@ askedOf d time question =
 abbrev pub spacedOf : Desk → ℕ → Desk
 spacedOf d size = record { line = d .line; space = size }
 
--- what each command calls; a line that is passed over, one that is none of the commands, and the call that only reads change nothing
+-- what each command calls; a line that is passed over, one that is none of the commands, and the calls that only read change nothing
 abbrev pub didOf : Command → List ℕ → Desk → Desk
 didOf command.Blank text d = d
 didOf command.Malformed text d = d
@@ -73,6 +74,8 @@ didOf (command.Power at) text d = calledOf d (powerOf (d .line) at)
 didOf (command.Space size) text d = spacedOf d size
 didOf (command.Xor at) text d = d
 didOf (command.Ask time command node parameter word value) text d = askedOf d time (questionOf command node parameter word value)
+didOf (command.Save at) text d = d
+didOf (command.Load at from count) text d = calledOf d (loadOf (d .line) at (broughtOf text from count))
 
 unfoldable pub obeyedOf : Desk → List ℕ → Desk
 obeyedOf d text = didOf (meaningOf text) text d

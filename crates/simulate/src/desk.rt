@@ -3,6 +3,9 @@ use crate::answer;
 use crate::ask;
 use crate::feeding;
 use crate::feeding::Purpose;
+use crate::room;
+use crate::sheets;
+use crate::sheets::Saved;
 use head::calls::Answer;
 use head::calls::Heard;
 use head::calls::Hit;
@@ -12,11 +15,13 @@ use line::calls::Line;
 use script::Command;
 use wire::telegram::Telegram;
 ghost use mathlib.Core.Path.{_≡_};
-ghost use Prim.Native.Nat.{_≤_};
 ghost use Rattle.simulate.specs.Feeding.{nthOf};
-ghost use Rattle.simulate.specs.Desk.{deskOf, hitLineOf, roomOf, feedOf, askedOf, calledOf, pressedOf, spacedOf, obeyedOf};
+ghost use Rattle.simulate.specs.Desk.{deskOf, hitLineOf, feedOf, askedOf, calledOf, pressedOf, spacedOf, obeyedOf};
 
-// The line, and how much reply space its byte and key calls lend.
+// The most space that a script can ask for.
+const MOST_SPACE: usize = 1024;
+
+// The line, and how much space its byte, key and save calls lend.
 pub(crate) struct Desk {
     pub line: Line,
     pub space: usize,
@@ -71,20 +76,12 @@ fn write_error(number: u64) -> bool {
     answer::write(b"\n") & text
 }
 
-// There never is more space than 64 bytes.
-fn room(size: usize) -> usize
-    ensures { λ r. ⌜ r ≡ roomOf size ⌝ }
-    ensures { λ r. ⌜ r ≤ 64 ⌝ }
-{
-    if size < 64 { size } else { 64 }
-}
-
 // Bytes, fed one after another and answered in one line of output.
 fn feed(d: Desk, purpose: Purpose, text: &[u8], time: u32, count: usize) -> Obeyed
     ensures { λ r. ⌜ r .desk ≡ feedOf d (nthOf purpose (now (text .entry))) time count ⌝ }
 {
-    let mut space = [0u8; 64];
-    let size = room(d.space);
+    let mut space = [0u8; MOST_SPACE];
+    let size = room::within(d.space, MOST_SPACE);
     let mut out = [0u8; 2048];
     let s = feeding::feed_all(
         d.line,
@@ -139,7 +136,7 @@ fn done(d: Desk, c: Called) -> Obeyed
 }
 
 // What a key state drew: a head sends a reply only where it adopts the number that it was offered.
-fn write_pressed(heard: Heard, space: &[u8; 64]) -> bool {
+fn write_pressed(heard: Heard, space: &[u8; MOST_SPACE]) -> bool {
     match heard {
         Heard::Replies(n) => {
             if n == 0 {
@@ -158,8 +155,8 @@ fn write_pressed(heard: Heard, space: &[u8; 64]) -> bool {
 fn press(d: Desk, head: usize, state: u32) -> Obeyed
     ensures { λ r. ⌜ r .desk ≡ pressedOf d head state ⌝ }
 {
-    let mut space = [0u8; 64];
-    let lent = room(d.space);
+    let mut space = [0u8; MOST_SPACE];
+    let lent = room::within(d.space, MOST_SPACE);
     let f = calls::keys(d.line, head, state, &mut space[..lent]);
     let line = f.line;
     let desk = Desk {
@@ -170,6 +167,30 @@ fn press(d: Desk, head: usize, state: u32) -> Obeyed
     Obeyed {
         desk: desk,
         written: write_pressed(heard, &space),
+    }
+}
+
+fn write_saved(s: Saved) -> bool {
+    let answer = s.answer;
+    match answer {
+        Answer::Done => {
+            let text = s.text;
+            answer::write(&text)
+        }
+        Answer::Refused(why) => answer::write_refused(why.number()),
+    }
+}
+
+// A save lends as much as a byte does, and leaves the desk as it is.
+fn saved(d: Desk, head: usize) -> Obeyed
+    ensures { λ r. ⌜ r .desk ≡ d ⌝ }
+{
+    let mut space = [0u8; MOST_SPACE];
+    let lent = room::within(d.space, MOST_SPACE);
+    let s = sheets::save(d.line, head, &mut space[..lent]);
+    Obeyed {
+        desk: d,
+        written: write_saved(s),
     }
 }
 
@@ -216,5 +237,10 @@ pub(crate) fn obey(d: Desk, text: &[u8], number: u64) -> Obeyed
             word,
             data,
         } => asked(d, time, ask::question(command, node, parameter, word, data)),
+        Command::Save(head) => saved(d, head as usize),
+        Command::Load { head, from, count } => done(
+            d,
+            sheets::load(d.line, head as usize, text, from, count),
+        ),
     }
 }

@@ -14,12 +14,15 @@ fn words() -> bool {
         b"  head NODE            grow the line by a head; the first is head 0\n  send TIME HEX        feed these bytes (two hex digits each), all at TIME\n  tick TIME            let the heads look at the clock\n",
     );
     let heads = write(
-        b"  measure HEAD VALUE   a head's measurement; VALUE may have a minus sign\n  keys HEAD STATE      a head's keys: 1 left, 2 star, 4 up, or a sum of these\n  power HEAD           switch a head off and on\n  space SIZE           the reply space bytes and keys lend, 0 to 64; 10 at first\n  xor HEAD             which bits of a head's last damaged telegram were hit\n",
+        b"  measure HEAD VALUE   a head's measurement; VALUE may have a minus sign\n  keys HEAD STATE      a head's keys: 1 left, 2 star, 4 up, or a sum of these\n  power HEAD           switch a head off and on\n  space SIZE           space lent for replies and sheets, 0 to 1024; 10 at first\n  xor HEAD             which bits of a head's last damaged telegram were hit\n",
+    );
+    let sheets = write(
+        b"  save HEAD            a head's settings on a sheet, to be loaded into another\n  load HEAD [HEX]      load the sheet of these bytes; no HEX: a sheet of no byte\n",
     );
     let master = write(
         b"  ask TIME COMMAND NODE PARAMETER WORD DATA\n                       build the telegram of these fields with its check sum,\n                       feed its ten bytes at TIME, and read what comes back;\n                       WORD is up to 65535, COMMAND, NODE and PARAMETER to 255\n\n",
     );
-    what & line & heads & master
+    what & line & heads & sheets & master
 }
 
 fn answers() -> bool {
@@ -35,10 +38,11 @@ fn answers() -> bool {
     let hit = write(
         b"  xor HH               the exclusive-or of the last damaged telegram that the head\n                       heard since it was switched on or restarted; 00: none\n",
     );
+    let saved = write(b"  saved HEX            the sheet, 274 bytes (two hex digits each)\n");
     let refused = write(
-        b"  refused N            1 node number not 1 to 127   4 measurement out of range\n                       2 ninth head                 5 key state above 7\n                       3 no such head               6 space under ten bytes\n                       10 command above 2 or node above 127\n  error at line N      the line is none of these commands\n",
+        b"  refused N            1 node number not 1 to 127   4 measurement out of range\n                       2 ninth head                 5 key state above 7\n                       3 no such head               6 space under ten bytes\n                       10 command above 2 or node above 127\n                       11 sheet malformed           13 value out of its row\n                       12 address not among the 39  14 space under 274 bytes\n  error at line N      the line is none of these commands\n",
     );
-    form & done & asked & hit & refused
+    form & done & asked & hit & saved & refused
 }
 
 // The only argument that there is.

@@ -5,6 +5,8 @@ mod desk;
 mod feeding;
 mod help;
 mod reading;
+mod room;
+mod sheets;
 
 fn main() {
     if 1 < os::arg_count() {

@@ -8,7 +8,9 @@ use Rattle.script.proofs.named.Tie as tie
 returns : tie.Need-returns
 unfolding nameOf
 returns c =
-    let xor = c .before .before in
+    let save = c .before .before in
+    let ask = save .before .before in
+    let xor = ask .before .before in
     let space = xor .before .before in
     let power = space .before .before in
     let keys = power .before .before in
@@ -16,8 +18,10 @@ returns c =
     let tick = measure .before .before in
     let send = tick .before .before in
     let head = send .before .before in
-    simp (
-      c .called9 .ensures,
+    rw (
+      c .called11 .ensures,
+      save .called10 .ensures,
+      ask .called9 .ensures,
       xor .called8 .ensures,
       space .called7 .ensures,
       power .called6 .ensures,
@@ -32,6 +36,10 @@ pub named-spec : {M : Type 1} → statement M
 named-spec =
     tie.close
     (tie.spec
+    (λ c. search needs)
+    (λ c κs. search needs)
+    (λ c. search needs)
+    (λ c κs. search needs)
     (λ c. search needs)
     (λ c κs. search needs)
     (λ c. search needs)

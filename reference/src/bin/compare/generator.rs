@@ -3,6 +3,7 @@
 
 mod ask;
 mod auto_id;
+mod sheet;
 mod status_word;
 
 use crate::random::Random;
@@ -14,7 +15,7 @@ use reference::rows;
 use reference::script::{hex, Simulation, LONGEST_LINE};
 use reference::telegram::{Telegram, WRITE};
 
-pub const LINES: usize = 300;
+pub const LINES: usize = 400;
 
 /// Of a hundred steps, in one script after the other: every adoption is a restart, and without some calm heads
 /// have no past to show.
@@ -22,6 +23,9 @@ const AUTO_ID_STEPS: [u32; 4] = [16, 0, 10, 5];
 
 /// Of a hundred of the other steps, likewise.
 const STATUS_WORD_STEPS: [u32; 4] = [4, 13, 8, 9];
+
+/// Of a hundred of those that are left, likewise.
+const SHEET_STEPS: [u32; 4] = [9, 12, 8, 14];
 
 /// Unknown words, missing and extra words, numbers that do not fit, hex digits that are none.
 const LINES_THAT_ARE_NONE: &str = "heads 1|HEAD 1|Send 0 00|head|head 1 2|head -1|head +1|head 1F|head 0x1F|\
@@ -31,7 +35,10 @@ const LINES_THAT_ARE_NONE: &str = "heads 1|HEAD 1|Send 0 00|head|head 1 2|head -
     measure 0|measure 0 1 2|measure 0 2147483648|measure 0 -2147483649|measure 0 -|measure 0 --1|\
     measure 0 +1|measure -0 1|keys 0|keys 0 -1|keys 0 4 10|power|power 0 0|xor|xor 0 0|xor 0 1|\
     xor -1|xor -0|xor +0|xor x|xor 1F|xor 0x0|xor 0#|xor 4294967296|xor 18446744073709551616|XOR 0|xors 0|\
-    xor0|space 65|space -1";
+    xor0|save|save 0 0|save 0 00|save -0|save +0|save x|save 0x0|save 0#|save 4294967296|SAVE 0|saved 0|\
+    load|load 0 0|load 0 000|load 0 0G|load 0 00 00|load 0 0x00|load 0 #|load -0 00|load +0|load 4294967296|\
+    load 4294967296 00|LOAD 0 00|loads 0 00|load0 00|space 1025|space 1025|space 4294967296|space 65536|\
+    space -1|space|space 10 10";
 
 pub struct Generator {
     random: Random,
@@ -40,6 +47,9 @@ pub struct Generator {
     /// Of a hundred steps.
     auto_id_steps: u32,
     status_word_steps: u32,
+    sheet_steps: u32,
+    /// The sheets that were written so far.
+    saved: Vec<Vec<u8>>,
     lines: Vec<Vec<u8>>,
 }
 
@@ -56,6 +66,8 @@ pub fn script(seed: u64, number: u64) -> Text {
         now,
         auto_id_steps: AUTO_ID_STEPS[(number % 4) as usize],
         status_word_steps: STATUS_WORD_STEPS[(number % 4) as usize],
+        sheet_steps: SHEET_STEPS[(number % 4) as usize],
+        saved: Vec::new(),
         lines: Vec::new(),
     };
     generator.first_heads();
@@ -75,6 +87,9 @@ impl Generator {
         }
         if self.random.chance(30) {
             self.ask_before_any_head();
+        }
+        if self.random.chance(20) {
+            self.sheet_at_no_head();
         }
         let heads = self.random.pick(&[1, 1, 1, 2, 2, 2, 3, 3, 4, 8]);
         let are_as_delivered = self.random.chance(20);
@@ -98,6 +113,9 @@ impl Generator {
         }
         if self.random.chance(self.status_word_steps) {
             return self.status_word();
+        }
+        if self.random.chance(self.sheet_steps) {
+            return self.sheet();
         }
         match self.random.below(100) {
             0..=36 => self.send_telegrams(),
@@ -256,6 +274,7 @@ impl Generator {
             3 => self.keys(),
             4 => self.space(),
             5 => self.xor(),
+            6 => self.load_somewhere(),
             _ => {}
         }
     }
@@ -441,30 +460,35 @@ impl Generator {
     }
 
     fn space(&mut self) {
-        let size = self.random.pick(&[0, 1, 9, 9, 10, 10, 11, 20, 64, 65]);
+        let size = self.random.pick(&[0, 1, 9, 9, 10, 10, 11, 64, 65, 273, 274, 275, 1_024, 1_025]);
         self.write_line(format!("space {size}"));
     }
 
     /// Mostly its end, so that heads are heard again; before it keys and questions, which are refused as bytes
-    /// are.
+    /// are, and sheets, which are written into it or not.
     fn in_short_space(&mut self) {
         match self.random.below(10) {
             0..=1 => self.keys(),
             2 => self.refused(),
             3 => self.ask_one(),
+            4 => self.sheet_in_short_space(),
             _ => self.write_line("space 10".to_string()),
+        }
+    }
+
+    fn missing_head(&mut self) -> String {
+        match self.random.below(4) {
+            0 => MOST_HEADS.to_string(),
+            // The low bytes of the first two alone would name head 0.
+            1 => self.random.pick(&[1 << 8, 1 << 16, u32::MAX]).to_string(),
+            _ => self.model.line().heads().len().to_string(),
         }
     }
 
     /// A call with a number that is refused, in every order of the refusals.
     fn refused(&mut self) {
         let count = self.model.line().heads().len();
-        let missing = match self.random.below(4) {
-            0 => MOST_HEADS.to_string(),
-            // The low bytes of the first two alone would name head 0.
-            1 => self.random.pick(&[1 << 8, 1 << 16, u32::MAX]).to_string(),
-            _ => count.to_string(),
-        };
+        let missing = self.missing_head();
         let present = self.random.below(count.max(1) as u32).to_string();
         let head = if self.random.chance(50) { missing } else { present };
         let far = self.random.pick(&[2_500_001, -2_500_001, 3_000_000, i32::MAX, i32::MIN]);
@@ -505,7 +529,10 @@ impl Generator {
             1 => String::new(),
             2 => format!("keys {} 0", self.random.below(3)),
             _ => {
-                let begun = format!("send {} ", self.now);
+                let begun = match self.random.chance(70) {
+                    true => format!("send {} ", self.now),
+                    false => "load 0 ".to_string(),
+                };
                 let digits = length - begun.len();
                 return begun + &"0".repeat(digits);
             }
@@ -514,11 +541,13 @@ impl Generator {
     }
 
     fn odd_bytes(&mut self) {
-        let mut line = match self.random.below(5) {
+        let mut line = match self.random.below(7) {
             0 => Vec::new(),
             1 => b"head 1".to_vec(),
             2 => b"xor 0".to_vec(),
-            3 => format!("ask {} 0 31 32 0 0", self.now).into_bytes(),
+            3 => b"save 0".to_vec(),
+            4 => b"load 0 00".to_vec(),
+            5 => format!("ask {} 0 31 32 0 0", self.now).into_bytes(),
             _ => format!("send {} 00", self.now).into_bytes(),
         };
         for _ in 0..self.random.below(6) {

@@ -8,6 +8,7 @@ mod forms;
 mod generator;
 mod program;
 mod random;
+mod sheets;
 mod shrink;
 mod telegrams;
 mod text;

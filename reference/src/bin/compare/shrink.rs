@@ -3,6 +3,7 @@
 use crate::text::Text;
 use reference::master::Question;
 use reference::script::{hex, meaning, Command, Meaning};
+use reference::sheet::{written, Reader, Setting};
 use reference::telegram::TELEGRAM_LENGTH;
 
 pub type StillDiffers<'a, T> = &'a mut dyn FnMut(&T) -> bool;
@@ -10,7 +11,7 @@ pub type StillDiffers<'a, T> = &'a mut dyn FnMut(&T) -> bool;
 /// Each try runs a program, and the bytes of a long form are many.
 const MOST_TRIES_FOR_A_FORM: u32 = 2_000;
 
-/// Drops lines, heads, bytes of sends and fields of questions, and again, until nothing more can go.
+/// Drops lines, heads, bytes of sends, fields of questions and rows of sheets, and again, until nothing more can go.
 pub fn shrink_script(mut script: Text, still_differs: StillDiffers<Text>) -> Text {
     loop {
         let length_before = script.bytes().len();
@@ -18,6 +19,7 @@ pub fn shrink_script(mut script: Text, still_differs: StillDiffers<Text>) -> Tex
         shrink_heads(&mut script, still_differs);
         shrink_sends(&mut script, still_differs);
         shrink_asks(&mut script, still_differs);
+        shrink_loads(&mut script, still_differs);
         if script.bytes().len() == length_before {
             return script;
         }
@@ -98,6 +100,8 @@ fn renumber(line: &mut Vec<u8>, gone: u32) {
         Command::Keys { head, state } if head > gone => format!("keys {} {state}", head - 1),
         Command::Power { head } if head > gone => format!("power {}", head - 1),
         Command::Xor { head } if head > gone => format!("xor {}", head - 1),
+        Command::Save { head } if head > gone => format!("save {}", head - 1),
+        Command::Load { head, sheet } if head > gone => load_line(head - 1, &sheet),
         _ => return,
     };
     *line = renumbered.into_bytes();
@@ -150,6 +154,40 @@ fn shrink_asks(script: &mut Text, still_differs: StillDiffers<Text>) {
 fn ask_line(time: u32, question: &Question) -> String {
     let Question { command, node, parameter, control_word, data } = question;
     format!("ask {time} {command} {node} {parameter} {control_word} {data}")
+}
+
+/// A sheet that is well-formed loses rows and stays so; any other loses bytes.
+fn shrink_loads(script: &mut Text, still_differs: StillDiffers<Text>) {
+    for number in 0..script.lines.len() {
+        let Meaning::Command(Command::Load { head, mut sheet }) = meaning(&script.lines[number]) else {
+            continue;
+        };
+        let with = |sheet: &[u8]| {
+            let mut changed = script.clone();
+            changed.lines[number] = load_line(head, sheet).into_bytes();
+            changed
+        };
+        // If the spelling of the line makes the difference, its sheet does not.
+        if !still_differs(&with(&sheet)) {
+            continue;
+        }
+        let settings: Option<Vec<Setting>> = Reader::new(&sheet).ok().map(Iterator::collect);
+        match settings {
+            Some(mut settings) => {
+                shrink_list(&mut settings, &mut |settings| still_differs(&with(&written(settings))));
+                sheet = written(&settings);
+            }
+            None => shrink_list(&mut sheet, &mut |sheet| still_differs(&with(sheet))),
+        }
+        *script = with(&sheet);
+    }
+}
+
+fn load_line(head: u32, sheet: &[u8]) -> String {
+    match sheet {
+        [] => format!("load {head}"),
+        _ => format!("load {head} {}", hex(sheet)),
+    }
 }
 
 /// Drops chunks, from half of the list down to single items, as long as what is left still differs.
@@ -234,6 +272,25 @@ mod tests {
     }
 
     #[test]
+    fn rows_of_sheets_go_too() {
+        // 04h 1, 05h 0 and 20h 51 (33h); the sheet of 20h alone has the body at 4.
+        let script = text(&["head 31", "load 0 0304000A05000E200012000000010000000000000033", "# x"]);
+        let mut sets_20h = |script: &Text| {
+            script.lines.iter().any(|line| match meaning(line) {
+                Meaning::Command(Command::Load { sheet, .. }) => {
+                    Reader::new(&sheet).is_ok_and(|mut rows| rows.any(|row| row.address == 0x20))
+                }
+                _ => false,
+            })
+        };
+        assert_eq!(shrink_script(script, &mut sets_20h).bytes(), b"load 0 0120000400000033\n");
+        // Malformed, as it begins with a row count that its length does not fit.
+        let script = text(&["load 0 05112233", "load 0 00"]);
+        let mut has_33 = |script: &Text| script.bytes().windows(2).any(|pair| pair == b"33");
+        assert_eq!(shrink_script(script, &mut has_33).bytes(), b"load 0 33\n");
+    }
+
+    #[test]
     fn heads_before_the_one_needed_go() {
         let script = text(&["head 1", "head 2", "head 3", "keys 1 7", "power 2"]);
         let mut powers_a_head = |script: &Text| {
@@ -251,6 +308,9 @@ mod tests {
             ("keys 2 7", "keys 1 7"),
             ("power 2", "power 1"),
             ("xor 2", "xor 1"),
+            ("save 2", "save 1"),
+            ("load 2", "load 1"),
+            ("load 2 00", "load 1 00"),
             ("xor 1", "xor 1"),
             ("xor 0", "xor 0"),
         ] {

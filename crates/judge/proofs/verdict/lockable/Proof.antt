@@ -14,5 +14,5 @@ lockable-spec =
     (λ c κs. search needs)
     (λ c. search needs)
     (λ c. search needs)
-    (λ c. let p = c .before .before in rw (stored-at _ (p .before .fits .address .fits), ← p .place-of .ensures, c .enum-told .given .1))
-    (λ c. let p = c .before .before in rw (stored-at _ (p .before .fits .address .fits), ← p .place-of .ensures, c .enum-told2 .given .1)))
+    (λ c. let p = c .before .before in rw (stored-at _, ← p .place-of .ensures, c .enum-told .given .1))
+    (λ c. let p = c .before .before in rw (stored-at _, ← p .place-of .ensures, c .enum-told2 .given .1)))

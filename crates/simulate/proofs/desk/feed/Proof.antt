@@ -14,8 +14,8 @@ feed-spec =
     tie.close
     (tie.spec
     (λ c κs. tt)
-    (λ c. c .room .ensures .1)
-    (λ c. sym (length-take-le {A = ℕ} (c .before .room .result) (replicate 64 0) (c .before .room .ensures .1)))
+    (λ c. c .within .ensures .1)
+    (λ c. sym (length-take-le {A = ℕ} (c .before .within .result) (replicate 1024 0) (c .before .within .ensures .1)))
     (λ c. search needs)
     (λ c κs. tt)
     (λ c. search needs)
@@ -24,5 +24,5 @@ feed-spec =
     (λ c. search needs)
     (λ c κs. tt)
     (λ c. let f = c .before .before .before .before .before .before .before .before .before in
-    let r = f .before .before .before .room in
+    let r = f .before .before .before .within in
     feeds _ _ _ _ (r .ensures .0) (r .ensures .1) (f .feed-all .ensures)))

@@ -7,7 +7,7 @@ use borrow.Author.Needs.{needs}
 use mir.Syntax.{w32}
 use mir.Facts.{toZ-ofZ}
 use Rattle.line.specs.declared.calls.Called.{Called}
-use Rattle.line.specs.Calls.{measureOf}
+use Rattle.line.specs.Calls.{measureOf, loadOf}
 use Rattle.script.specs.declared.Command.{Command}
 use Rattle.script.specs.Meaning.{meaningOf}
 use Rattle.simulate.specs.declared.desk.Desk.{Desk}
@@ -61,6 +61,13 @@ obey-spec =
     (λ c. search needs)
     (λ c κs. tt)
     (λ c κs. tt)
+    (λ c. search needs)
+    (λ c. search needs)
+    (λ c κs. tt)
+    (λ c. search needs)
+    (λ c. search needs)
+    (λ c κs. tt)
+    (λ c κs. tt)
     (λ c. did _ _ _ _ (c .before .before .meaning .ensures) (c .enum-told .given .1))
     (λ c. did _ _ _ _ (c .before .before .before .meaning .ensures) (c .before .enum-told2 .given .1))
     (λ c. let k = c .before .before .before in
@@ -79,4 +86,7 @@ obey-spec =
     (λ c. let k = c .before .before in c .spaced .ensures ∙ did _ _ _ _ (k .before .before .meaning .ensures) (k .size .given .1))
     (λ c. let k = c .before .before .before in did _ _ _ _ (k .before .before .meaning .ensures) (k .head4 .given .1))
     (λ c. let k = c .before .before .before in
-    c .asked .ensures ∙ rw (c .before .question .ensures) (did _ _ _ _ (k .before .before .meaning .ensures) (k .time3 .given .1))))
+    c .asked .ensures ∙ rw (c .before .question .ensures) (did _ _ _ _ (k .before .before .meaning .ensures) (k .time3 .given .1)))
+    (λ c. let k = c .before .before in c .saved .ensures ∙ did _ _ _ _ (k .before .before .meaning .ensures) (k .head5 .given .1))
+    (λ c. let k = c .before .before .before in
+    called (k .before .before .before .before .args .d) _ _ _ (loadOf _ _ _) (c .done5 .ensures) (c .before .load .ensures) (k .before .before .meaning .ensures) (k .head6 .given .1) refl))

@@ -14,9 +14,9 @@ press-spec =
     (tie.spec
     (λ c κs. tt)
     (λ c. search needs)
-    (λ c. sym (length-take-le {A = ℕ} (c .before .room .result) (replicate 64 0) (c .before .room .ensures .1)))
+    (λ c. sym (length-take-le {A = ℕ} (c .before .within .result) (replicate 1024 0) (c .before .within .ensures .1)))
     (λ c κs. tt)
     (λ c κs. tt)
     (λ c. let k = c .before .before .before .before in
-    let r = k .before .before .room in
-    rw (k .keys .ensures .0, length-take-le {A = ℕ} (r .result) (replicate 64 0) (r .ensures .1), r .ensures .0)))
+    let r = k .before .before .within in
+    rw (k .keys .ensures .0, length-take-le {A = ℕ} (r .result) (replicate 1024 0) (r .ensures .1), r .ensures .0)))

@@ -8,15 +8,11 @@ use native.Mathlib.Omega.{arith}
 use borrow.Author.Needs.{needs}
 use borrow.Author.Tests.{lt-ltb, le-ltb}
 use lib.ListN.{length, take, replicate, length-take}
-use Rattle.hex.specs.Digits.{digitsOf, spelledOn}
+use Rattle.hex.specs.Digits.{digitsOf}
 use Rattle.simulate.specs.Feeding.{wordOf}
+use Rattle.simulate.proofs.Digits.{filled}
 use Rattle.simulate.proofs.feeding.word.Statement.{statement}
 use Rattle.simulate.proofs.feeding.word.Tie as tie
-
--- the text after the first blank
-filled : (ten : List ℕ) → length ten ≡ 10 → spelledOn (replicate 20 (code " ")) ten ++ [] ≡ digitsOf ten
-unfolding spelledOn
-filled ten e = rw e (simp append-nil)
 
 pub word-spec : {M : Type 1} → statement M
 unfolding wordOf
@@ -34,4 +30,5 @@ word-spec =
     let space = k .before .before .args .space .now in
     let ten : length (take 10 space) ≡ 10 = simp length-take (omega arith) in
     simp (le-ltb _ _ (k .if1 .left))
-    (ap (λ (l : List ℕ). code " " ∷ l) (ap (λ (l : List ℕ). l ++ []) (c .before .spell .ensures) ∙ filled (take 10 space) ten))))
+    (ap (λ (l : List ℕ). code " " ∷ l)
+    (ap (λ (l : List ℕ). l ++ []) (c .before .spell .ensures ∙ filled (replicate 20 (code " ")) (take 10 space) (omega arith)) ∙ append-nil (digitsOf (take 10 space))))))

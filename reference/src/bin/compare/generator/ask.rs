@@ -299,7 +299,7 @@ impl Generator {
     }
 
     /// Where there is no other, a new one.
-    fn another_head(&mut self, first: usize) -> usize {
+    pub(super) fn another_head(&mut self, first: usize) -> usize {
         let count = self.model.line().heads().len();
         if count == 1 {
             self.grow();

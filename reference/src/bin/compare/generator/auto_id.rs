@@ -10,7 +10,7 @@ use reference::telegram::{Telegram, BROADCAST, READ, TELEGRAM_LENGTH, WRITE};
 const ACKNOWLEDGE: u16 = 1 << 5;
 
 /// What a head has of its past when up is pressed; a restart leaves nothing of it.
-enum Past {
+pub(super) enum Past {
     Damaged,
     /// The bytes that would complete a telegram.
     Begun(Vec<u8>),
@@ -44,7 +44,7 @@ impl Generator {
 
     /// Mostly a head at 31: one that is there, or one that is brought there, perhaps to others. A head that is
     /// not there refuses the offer.
-    fn head_for_auto_id(&mut self) -> Option<usize> {
+    pub(super) fn head_for_auto_id(&mut self) -> Option<usize> {
         let (some, _) = self.some_head()?;
         let at_31 = self.heads_where(|head| head.number_in_force() == FACTORY_NODE);
         match self.random.below(10) {
@@ -112,7 +112,7 @@ impl Generator {
 
     // The offer.
 
-    fn offer(&mut self, number: usize) {
+    pub(super) fn offer(&mut self, number: usize) {
         if self.random.chance(15) {
             return self.offer_to_monitored(number);
         }
@@ -224,12 +224,9 @@ impl Generator {
         self.write_line(format!("space {size}"));
     }
 
-    fn some_past(&mut self, number: usize) -> Past {
+    pub(super) fn some_past(&mut self, number: usize) -> Past {
         match self.random.below(16) {
-            0..=1 => {
-                self.send_from(number, |author| damaged(author, 2));
-                Past::Damaged
-            }
+            0..=1 => self.damage_two(number),
             2..=3 => self.begin_telegram(number),
             4..=5 => {
                 self.acknowledge(number);
@@ -253,8 +250,13 @@ impl Generator {
         }
     }
 
+    pub(super) fn damage_two(&mut self, number: usize) -> Past {
+        self.send_from(number, |author| damaged(author, 2));
+        Past::Damaged
+    }
+
     /// Of a read at the number that the head has after the key, so that it would answer.
-    fn begin_telegram(&mut self, number: usize) -> Past {
+    pub(super) fn begin_telegram(&mut self, number: usize) -> Past {
         let head = self.head(number);
         let node = head.number_on_offer().unwrap_or(head.number_in_force());
         let telegram = Telegram::new(READ, node, rows::NODE_ADDRESS, 0, 0).bytes();
@@ -264,7 +266,7 @@ impl Generator {
     }
 
     /// The control word acknowledges only if the last one taken did not.
-    fn acknowledge(&mut self, number: usize) {
+    pub(super) fn acknowledge(&mut self, number: usize) {
         self.send_from(number, |author| {
             let node = author.head.number_in_force();
             Telegram::new(WRITE, node, rows::SET_POINT_1, ACKNOWLEDGE, 7).bytes().to_vec()
@@ -274,7 +276,7 @@ impl Generator {
     // The key, and what came of it.
 
     /// Mostly newly pressed, alone or with others.
-    fn press_up(&mut self, number: usize) {
+    pub(super) fn press_up(&mut self, number: usize) {
         if self.head(number).keys() & KEY_UP != 0 && self.random.chance(70) {
             self.keys_of(number, &[0, 0, 1, 2]);
         }
@@ -288,7 +290,7 @@ impl Generator {
         }
     }
 
-    fn look_for(&mut self, past: Past, number: usize) {
+    pub(super) fn look_for(&mut self, past: Past, number: usize) {
         match past {
             Past::Damaged => self.send_from(number, |author| damaged(author, 1)),
             Past::Begun(rest) => self.send(&rest),
@@ -320,7 +322,7 @@ impl Generator {
     }
 
     /// The number that is stored, both lists and all values, where the head was and where it is.
-    fn read_at(&mut self, number: usize, node_before: u8) {
+    pub(super) fn read_at(&mut self, number: usize, node_before: u8) {
         let node_now = self.head(number).number_in_force();
         let mut bytes = reads_at(node_now);
         if node_before != node_now {

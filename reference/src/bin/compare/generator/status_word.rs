@@ -65,7 +65,7 @@ impl Generator {
 
     /// Narrow windows, a position that divisor and offset move far, and a valid set point at the edge of a
     /// window.
-    fn come_near_the_set_point(&mut self, number: usize) {
+    pub(super) fn come_near_the_set_point(&mut self, number: usize) {
         let head = self.head(number);
         if head.status_word() & INCREMENTAL != 0 && self.random.chance(70) {
             self.switch_incremental(number);
@@ -90,7 +90,7 @@ impl Generator {
         self.send_from(number, |author| set_point_at_an_edge(author).bytes().to_vec());
     }
 
-    fn give_the_word_a_bit(&mut self, number: usize) {
+    pub(super) fn give_the_word_a_bit(&mut self, number: usize) {
         match self.random.below(8) {
             0..=1 => self.write_to(number, &[(rows::FREEZE, 1)]),
             2..=3 => self.send_from(number, |author| three_damaged(author, None)),
@@ -383,7 +383,8 @@ mod tests {
                 Command::Keys { head, state } => drop(self.line.keys(head, state, &mut self.space)),
                 Command::Power { head } => drop(self.line.power(head)),
                 Command::Space { size } => self.space = vec![0; size],
-                Command::Xor { .. } => {}
+                Command::Load { head, sheet } => drop(self.line.load(head, &sheet)),
+                Command::Xor { .. } | Command::Save { .. } => {}
             }
         }
 

@@ -1,0 +1,9 @@
+pub mod Each
+pub mod Shape
+pub mod Spelled
+pub mod Bytes
+pub mod Store
+pub mod Sheets
+pub mod HandsOut
+pub mod Written
+pub mod Loads

@@ -1,0 +1,53 @@
+-- The bytes of a load: gathered one by one, handed on, and just those that stand in the line.
+-- Assumes nothing.
+use Prim.Native.Nat.{ℕ, zero, suc, _+_, _<_, _≤_}
+use mathlib.Core.Path.{_≡_, refl, ap, sym, _∙_}
+use mathlib.Core.List.{List, [], _∷_, _++_}
+use native.Mathlib.Numerals.{add-one}
+use native.Mathlib.Nat.{min-eq-left}
+use native.Mathlib.Omega.{arith}
+use lib.ListN.{length, take, set, length-append}
+use lib.Seq.{take-suc-set, take-at}
+use Rattle.line.specs.Calls.{loadOf}
+use Rattle.text.specs.Lines.{bareOf}
+use Rattle.text.specs.Numbers.{bytesOf}
+use Rattle.script.specs.declared.Command.the-variants as command
+use Rattle.script.specs.Words.{wordsOf}
+use Rattle.script.specs.Meaning.{meaningOf, read}
+use Rattle.script.proofs.Carried.{thirdOf, load-bytes, load-within}
+use Rattle.simulate.specs.declared.desk.Desk.{Desk}
+use Rattle.simulate.specs.Desk.{calledOf, obeyedOf}
+
+-- a byte more, and as many as are asked for
+one-more : (f : ℕ → ℕ) (n : ℕ) → read f (suc n) ≡ read f n ++ (f n ∷ [])
+one-more f zero = refl
+one-more f (suc n) = ap (λ (l : List ℕ). f 0 ∷ l) (one-more (λ (i : ℕ). f (suc i)) n)
+
+as-many : (f : ℕ → ℕ) (n : ℕ) → length (read f n) ≡ n
+as-many f zero = refl
+as-many f (suc n) = ap suc (as-many (λ (i : ℕ). f (suc i)) n)
+
+-- byte `i` laid in its place
+pub gathered : (f : ℕ → ℕ) (room : List ℕ) (i : ℕ) {b : ℕ} → i < length room → b ≡ f i → take i room ≡ read f i
+    → take (i + 1) (set room i b) ≡ read f (i + 1)
+gathered f room i {b} h e k = rw (add-one, take-suc-set room i b h, one-more f i, k, e)
+
+-- the first `n` bytes of the room, where so many were gathered
+module _ (f : ℕ → ℕ) {m n : ℕ} {g : List ℕ} (size : m ≡ n) (is : g ≡ read f m) (rest : List ℕ) where
+  long : length g ≡ n
+  long = rw (is, as-many f m) size
+
+  pub handed-within : n ≤ length (g ++ rest)
+  handed-within = let k = long in simp length-append (omega arith)
+
+  pub handed : take n (g ++ rest) ≡ read f n
+  handed = take-at g rest n long ∙ is ∙ rw size
+
+  pub handed-size : n ≡ length (take n (g ++ rest))
+  handed-size = sym (rw handed (as-many f n))
+
+-- a line that means a `Load` loads just the bytes of its third word, and none where there is no such word: they never are more than there is room for
+pub loads : (d : Desk) (line : List ℕ) {at from count : ℕ} → meaningOf line ≡ command.Load at from count
+    → obeyedOf d line ≡ calledOf d (loadOf (d .line) at (bytesOf (thirdOf (wordsOf (bareOf line)))))
+unfolding obeyedOf
+loads d line e = rw (e, min-eq-left (load-within line e), load-bytes line e)
