@@ -21,10 +21,19 @@ const DAMAGED_FOR_AN_ERROR: u32 = 3;
 /// The value of A0h that restarts the head.
 const RESTART: u32 = 9;
 
+/// The value of 28h with which the head shows its set points and minds no position.
+const ALPHA_NUMERIC: i32 = 3;
+
+/// The value of 3Eh with which star acknowledges set points too.
+const LEFT_AND_STAR: i32 = 2;
+
 const CONTROL_SET_POINT_1_VALID: u16 = 1 << 2;
 const CONTROL_CLEAR_STATIC: u16 = 1 << 4;
-const CONTROL_ACKNOWLEDGE: u16 = 1 << 5;
+const CONTROL_ACKNOWLEDGE_ERROR: u16 = 1 << 5;
+const CONTROL_ACKNOWLEDGE_SET_POINT_2: u16 = 1 << 6;
+const CONTROL_CHARACTERS: u16 = 1 << 7;
 const CONTROL_SET_POINT_2_VALID: u16 = 1 << 9;
+const CONTROL_ACKNOWLEDGE_SET_POINT_1: u16 = 1 << 10;
 
 const STATUS_CLOCKWISE: u16 = 1 << 0;
 const STATUS_COUNTER_CLOCKWISE: u16 = 1 << 1;
@@ -38,6 +47,11 @@ const STATUS_FROZEN: u16 = 1 << 8;
 const STATUS_INCREMENTAL: u16 = 1 << 9;
 const STATUS_SET_POINT_2_VALID: u16 = 1 << 10;
 const STATUS_KEYS_FROM: u16 = 13;
+
+/// What three of the bits mean in the alpha-numeric display.
+const STATUS_SET_POINT_1_ACKNOWLEDGED: u16 = 1 << 3;
+const STATUS_SET_POINT_2_ACKNOWLEDGED: u16 = 1 << 5;
+const STATUS_CHARACTERS: u16 = 1 << 9;
 
 pub const KEY_LEFT: u8 = 1;
 pub const KEY_STAR: u8 = 2;
@@ -72,13 +86,40 @@ impl ErrorList {
     }
 }
 
+/// Only a valid one is ever acknowledged, and only in the alpha-numeric display.
+#[derive(Clone, Debug, Default)]
+struct SetPoint {
+    data: u32,
+    is_valid: bool,
+    is_acknowledged: bool,
+}
+
+impl SetPoint {
+    /// One that was just written, so that nobody has acknowledged it.
+    fn new(data: u32, is_valid: bool) -> SetPoint {
+        SetPoint { data, is_valid, is_acknowledged: false }
+    }
+
+    fn lacks_acknowledgement(&self) -> bool {
+        self.is_valid && !self.is_acknowledged
+    }
+
+    fn acknowledge(&mut self) {
+        self.is_acknowledged = self.is_valid;
+    }
+
+    /// The data stay.
+    fn make_invalid(&mut self) {
+        self.is_valid = false;
+        self.is_acknowledged = false;
+    }
+}
+
 /// What a restart clears, each at its first value.
 #[derive(Clone, Debug, Default)]
 struct Running {
-    set_point_1: u32,
-    set_point_1_valid: bool,
-    set_point_2: i32,
-    set_point_2_valid: bool,
+    set_point_1: SetPoint,
+    set_point_2: SetPoint,
     taken_control_word: u16,
     static_bit: bool,
     pending_error: Option<ErrorCode>,
@@ -164,6 +205,11 @@ impl Head {
         self.value(rows::PROGRAMMING_CONFIGURATION) == 1 && !self.interlock_open
     }
 
+    /// Whether the head is in mode 3 of 28h.
+    pub fn is_alpha_numeric(&self) -> bool {
+        self.value(rows::OPERATING_MODE) == ALPHA_NUMERIC
+    }
+
     pub fn measurement(&self) -> i32 {
         self.measurement
     }
@@ -178,7 +224,7 @@ impl Head {
     }
 
     pub fn set_point_2(&self) -> i32 {
-        self.running.set_point_2
+        self.running.set_point_2.data as i32
     }
 
     pub fn gathered_count(&self) -> usize {
@@ -239,6 +285,9 @@ impl Head {
         if newly_pressed & KEY_LEFT != 0 {
             self.left_pressed();
         }
+        if newly_pressed & KEY_STAR != 0 {
+            self.star_pressed();
+        }
         if newly_pressed & KEY_UP != 0 {
             return self.up_pressed(status_word_before);
         }
@@ -255,9 +304,11 @@ impl Head {
     /// Stores what a sheet says, or nothing of it. The sheet does not come over the line, so the interlock has no
     /// say; and a value of 00h or 01h waits for the restart as a written one does.
     pub fn load(&mut self, sheet: &[u8]) -> Result<(), Refusal> {
+        let mut values = self.values;
         for Setting { address, value } in sheet::loadable(sheet)? {
-            self.store(address, value);
+            values[place_of(address)] = value as i32;
         }
+        self.change_values(values);
         Ok(())
     }
 
@@ -391,7 +442,21 @@ impl Head {
 
     /// A value that has been found to be in its row.
     fn store(&mut self, address: u8, data: u32) {
-        self.values[place_of(address)] = data as i32;
+        let mut values = self.values;
+        values[place_of(address)] = data as i32;
+        self.change_values(values);
+    }
+
+    /// By a write, a reset or a sheet. What was sent to be displayed is no target, and no target was sent to be
+    /// displayed, so that no set point stays valid over the step into mode 3 or out of it.
+    fn change_values(&mut self, values: [i32; ROW_COUNT]) {
+        let was_alpha_numeric = self.is_alpha_numeric();
+        self.values = values;
+        if self.is_alpha_numeric() != was_alpha_numeric {
+            self.running.set_point_1.make_invalid();
+            self.running.set_point_2.make_invalid();
+            self.running.static_bit = false;
+        }
     }
 
     // Reading.
@@ -407,11 +472,11 @@ impl Head {
             }
             rows::INPUT_ERRORS => self.read_input_errors(data),
             rows::STATUS_WORD => u32::from(self.status_word()),
-            rows::SET_POINT_1 => self.running.set_point_1,
+            rows::SET_POINT_1 => self.running.set_point_1.data,
             rows::DIFFERENTIAL_VALUE => self.differential_value() as u32,
             rows::PENDING_ERROR => u32::from(self.running.pending_error.unwrap_or(0)),
             rows::POSITION_VALUE => self.running.kept_position.unwrap_or(self.position_shown()) as u32,
-            rows::SET_POINT_2 => self.running.set_point_2 as u32,
+            rows::SET_POINT_2 => self.running.set_point_2.data,
             _ => self.value(parameter) as u32,
         }
     }
@@ -449,23 +514,25 @@ impl Head {
 
     /// To the manual's default, so 00h to 31 and not to the number that the head was made with.
     fn reset(&mut self, is_meant: impl Fn(u8) -> bool) {
-        for (value, row) in self.values.iter_mut().zip(ROWS) {
+        let mut values = self.values;
+        for (value, row) in values.iter_mut().zip(ROWS) {
             if is_meant(row.address) {
                 *value = row.default;
             }
         }
+        self.change_values(values);
     }
 
     fn write_set_point_1(&mut self, data: u32, control_word: u16) {
-        self.running.set_point_1 = data;
-        self.running.set_point_1_valid = control_word & CONTROL_SET_POINT_1_VALID != 0;
+        let is_valid = control_word & CONTROL_SET_POINT_1_VALID != 0;
+        self.running.set_point_1 = SetPoint::new(data, is_valid);
         self.take_control_word(control_word);
     }
 
     /// Gives the data of the reply, which 03h chooses and which are those after the write.
     fn write_set_point_2(&mut self, data: u32, control_word: u16) -> u32 {
-        self.running.set_point_2 = data as i32;
-        self.running.set_point_2_valid = control_word & CONTROL_SET_POINT_2_VALID != 0;
+        let is_valid = control_word & CONTROL_SET_POINT_2_VALID != 0;
+        self.running.set_point_2 = SetPoint::new(data, is_valid);
         self.take_control_word(control_word);
         self.set_static_bit_in_window();
         match self.value(rows::SET_POINT_RESPONSE) {
@@ -475,16 +542,29 @@ impl Head {
         }
     }
 
-    /// What both set points' control words do: bits 4 and 5.
+    /// What both set points' control words do: bits 4 and 5, and in the alpha-numeric display 6 and 10.
     fn take_control_word(&mut self, control_word: u16) {
         if control_word & CONTROL_CLEAR_STATIC != 0 {
             self.running.static_bit = false;
         }
         let newly_set = control_word & !self.running.taken_control_word;
-        if newly_set & CONTROL_ACKNOWLEDGE != 0 {
+        if newly_set & CONTROL_ACKNOWLEDGE_ERROR != 0 {
             self.running.pending_error = None;
         }
+        if self.is_alpha_numeric() {
+            self.acknowledge_by(control_word);
+        }
         self.running.taken_control_word = control_word;
+    }
+
+    /// Either word may acknowledge either set point. The one that it came with is in place by now.
+    fn acknowledge_by(&mut self, control_word: u16) {
+        if control_word & CONTROL_ACKNOWLEDGE_SET_POINT_1 != 0 {
+            self.running.set_point_1.acknowledge();
+        }
+        if control_word & CONTROL_ACKNOWLEDGE_SET_POINT_2 != 0 {
+            self.running.set_point_2.acknowledge();
+        }
     }
 
     // Errors and keys.
@@ -494,12 +574,31 @@ impl Head {
         self.error_memory.enter(code);
     }
 
+    /// Does one thing only: nobody who acknowledges means to calibrate.
     fn left_pressed(&mut self) {
         if self.running.pending_error.is_some() {
             self.running.pending_error = None;
+        } else if self.is_alpha_numeric() && self.lacks_acknowledgement() {
+            self.acknowledge_set_points();
         } else if self.value(rows::CALIBRATION_KEY_ENABLE) == 1 {
             self.calibrate();
         }
+    }
+
+    /// A pending error is no concern of star, so that it does not hold it back.
+    fn star_pressed(&mut self) {
+        if self.is_alpha_numeric() && self.value(rows::ACKNOWLEDGEMENT_SETTINGS) == LEFT_AND_STAR {
+            self.acknowledge_set_points();
+        }
+    }
+
+    fn lacks_acknowledgement(&self) -> bool {
+        self.running.set_point_1.lacks_acknowledgement() || self.running.set_point_2.lacks_acknowledgement()
+    }
+
+    fn acknowledge_set_points(&mut self) {
+        self.running.set_point_1.acknowledge();
+        self.running.set_point_2.acknowledge();
     }
 
     /// With a number on offer the key adopts it, whatever 35h says, and does nothing else.
@@ -569,7 +668,7 @@ impl Head {
 
     /// A - S, in 64 bits because in 32 it wraps.
     fn actual_minus_set_point(&self) -> i64 {
-        self.actual() - i64::from(self.running.set_point_2)
+        self.actual() - i64::from(self.set_point_2())
     }
 
     fn differential_value(&self) -> i64 {
@@ -580,29 +679,48 @@ impl Head {
         difference.clamp(-HIGHEST_DIFFERENTIAL, HIGHEST_DIFFERENTIAL)
     }
 
+    /// The alpha-numeric display minds no window.
     fn set_static_bit_in_window(&mut self) {
-        if self.status_word() & STATUS_IN_WINDOW_1 != 0 {
+        if !self.is_alpha_numeric() && self.position_bits() & STATUS_IN_WINDOW_1 != 0 {
             self.running.static_bit = true;
         }
     }
 
     pub fn status_word(&self) -> u16 {
         let running = &self.running;
-        let mut status_word = u16::from(running.keys) << STATUS_KEYS_FROM;
-        let mut set_if = |condition: bool, bit: u16| {
-            if condition {
-                status_word |= bit;
-            }
+        let keys = u16::from(running.keys) << STATUS_KEYS_FROM;
+        let bits_of_the_mode = match self.is_alpha_numeric() {
+            true => self.display_bits(),
+            false => self.position_bits(),
         };
-        set_if(running.set_point_1_valid, STATUS_SET_POINT_1_VALID);
-        set_if(running.static_bit, STATUS_STATIC);
-        set_if(running.pending_error.is_some(), STATUS_ERROR_PENDING);
-        set_if(running.kept_position.is_some(), STATUS_FROZEN);
-        set_if(running.incremental_start.is_some(), STATUS_INCREMENTAL);
-        if running.set_point_2_valid {
-            status_word |= STATUS_SET_POINT_2_VALID | self.target_bits();
-        }
-        status_word
+        let bits = bits_where(&[
+            (running.set_point_1.is_valid, STATUS_SET_POINT_1_VALID),
+            (running.pending_error.is_some(), STATUS_ERROR_PENDING),
+            (running.kept_position.is_some(), STATUS_FROZEN),
+            (running.set_point_2.is_valid, STATUS_SET_POINT_2_VALID),
+        ]);
+        keys | bits | bits_of_the_mode
+    }
+
+    /// The bits that only the alpha-numeric display has. That of set point 1 does not wait for a valid set point 2.
+    fn display_bits(&self) -> u16 {
+        let running = &self.running;
+        bits_where(&[
+            (running.set_point_1.is_acknowledged, STATUS_SET_POINT_1_ACKNOWLEDGED),
+            (running.set_point_2.is_acknowledged, STATUS_SET_POINT_2_ACKNOWLEDGED),
+            (running.taken_control_word & CONTROL_CHARACTERS != 0, STATUS_CHARACTERS),
+        ])
+    }
+
+    /// The bits that all other modes have.
+    fn position_bits(&self) -> u16 {
+        let running = &self.running;
+        let target_bits = if running.set_point_2.is_valid { self.target_bits() } else { 0 };
+        let bits = bits_where(&[
+            (running.static_bit, STATUS_STATIC),
+            (running.incremental_start.is_some(), STATUS_INCREMENTAL),
+        ]);
+        target_bits | bits
     }
 
     /// The bits that a valid set point 2 gives.
@@ -625,6 +743,11 @@ impl Head {
         }
         bits
     }
+}
+
+/// The bits whose condition holds.
+fn bits_where(conditions: &[(bool, u16)]) -> u16 {
+    conditions.iter().filter(|(holds, _)| *holds).fold(0, |bits, (_, bit)| bits | bit)
 }
 
 fn place_of(address: u8) -> usize {

@@ -13,6 +13,7 @@ pub const COUNTING_DIRECTION: u8 = 0x1B;
 pub const OFFSET_VALUE: u8 = 0x1E;
 pub const CALIBRATION_VALUE: u8 = 0x1F;
 pub const TARGET_WINDOW_1: u8 = 0x20;
+pub const OPERATING_MODE: u8 = 0x28;
 pub const TARGET_WINDOW_2: u8 = 0x31;
 pub const DIVISOR_APPLICATION: u8 = 0x33;
 pub const DIFFERENTIAL_FORMATION: u8 = 0x34;
@@ -85,7 +86,7 @@ pub const ROWS: [Row; ROW_COUNT] = [
     row(0x20, 0, 9_999, 5),
     row(0x21, 0, 2, 0),
     row(0x22, 0, 9_999, 0),
-    row(0x28, 0, 2, 0),
+    row(0x28, 0, 3, 0),
     row(0x30, 0, 1, 0),
     row(0x31, 0, 9_999, 0),
     row(0x32, 0, 1, 0),

@@ -35,6 +35,11 @@ fn the_sheets() {
 }
 
 #[test]
+fn the_display() {
+    assert_answers(include_bytes!("../../tests/display.script"), include_str!("../../tests/display.answers"));
+}
+
+#[test]
 fn the_cases_of_bench() {
     let bytes = include_bytes!("../../crates/bench/stdin");
     let mut head = Head::factory();

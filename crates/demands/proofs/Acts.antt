@@ -18,12 +18,17 @@ use Rattle.state.specs.declared.parts.Measurement.{Measurement}
 use Rattle.state.specs.declared.parts.Monitor.{Monitor}
 use Rattle.state.specs.declared.parts.Targets.{Targets}
 use Rattle.state.specs.Bits.{bitSet}
+use Rattle.state.specs.Settings.{modePlace}
+use Rattle.state.specs.Mode.{isDisplay}
 use Rattle.state.specs.Status.{aimedOf, withinOf}
 use Rattle.state.proofs.Laws.{within-bit}
 use Rattle.effects.specs.Stored.{storedBy}
 use Rattle.effects.specs.Faults.{withPending, acknowledgedOf, faultsBy}
 use Rattle.effects.specs.Measured.{calibratedOf, frozenOf, measurementBy}
-use Rattle.effects.specs.Aimed.{settledOf, firstAimed, secondAimed, targetsBy}
+use Rattle.effects.specs.Aimed.{settledOf, firstAimed, secondAimed, givenOf, staysOf, turnedOf, targetsBy}
+use Rattle.effects.proofs.Turns.{turned-same}
+use Rattle.head.specs.Hear.{retargeted}
+use Rattle.demands.specs.Alone.{setting, stays}
 use Rattle.demands.specs.Acts.{Act, actOf, Acted}
 use Rattle.demands.proofs.Sorts.{Sort, value, system, interlock, assignment, other, sortOf, value-kind, first-kind, second-kind, calibration-kind, freezing-kind, system-kind, interlock-kind, assignment-kind, other-deed, first-nowhere, second-nowhere, calibration-nowhere, freezing-nowhere, value-apart, value-system}
 
@@ -43,7 +48,7 @@ module _ (h : Head) (f : Faults) (pending-is : f .pending ≡ h .faults .pending
         stored = storedBy d (h .stored);
         faults = faultsBy d (h .targets .word) f;
         measurement = measurementBy d (h .stored .values) (h .measurement);
-        targets = targetsBy d (h .stored .values) (h .measurement) (h .targets);
+        targets = retargeted d h;
         monitor = started;
         ear = emptied;
         keys = h .keys;
@@ -51,14 +56,17 @@ module _ (h : Head) (f : Faults) (pending-is : f .pending ≡ h .faults .pending
 
   rests : (d : Deed) (v w : ℕ) → targetsBy d (h .stored .values) (h .measurement) (h .targets) ≡ h .targets
       → measurementBy d (h .stored .values) (h .measurement) ≡ h .measurement → faultsBy d (h .targets .word) f ≡ f → Acted h (after d) idle v w
+  unfolding turnedOf staysOf isDisplay
   rests d v w p q r =
       record {
         first = ap (λ (t : Targets). t .first) p;
-        valid1 = ap (λ (t : Targets). t .valid1) p;
+        valid1 = ap (λ (t : Targets). stays h (after d) && t .valid1) p;
         second = ap (λ (t : Targets). t .second) p;
-        valid2 = ap (λ (t : Targets). t .valid2) p;
+        valid2 = ap (λ (t : Targets). stays h (after d) && t .valid2) p;
         word = ap (λ (t : Targets). t .word) p;
-        reached = ap (λ (t : Targets). t .reached) p;
+        reached = ap (λ (t : Targets). stays h (after d) && t .reached) p;
+        acknowledged1 = ap (λ (t : Targets). stays h (after d) && t .acknowledged1) p;
+        acknowledged2 = ap (λ (t : Targets). stays h (after d) && t .acknowledged2) p;
         pending = ap (λ (g : Faults). g .pending) r ∙ pending-is;
         memory = ap (λ (g : Faults). g .memory) r ∙ memory-is;
         inputs = ap (λ (g : Faults). g .inputs) r ∙ inputs-is;
@@ -78,31 +86,33 @@ module _ (h : Head) (f : Faults) (pending-is : f .pending ≡ h .faults .pending
   acknowledges false = (pending-is, memory-is, inputs-is)
 
   takes-first : (v w : ℕ) → Acted h (after (Aim1 v w)) (act true false false false false) v w
-  unfolding targetsBy firstAimed measurementBy faultsBy acknowledgedOf
+  unfolding storedBy targetsBy turnedOf staysOf isDisplay givenOf firstAimed measurementBy faultsBy acknowledgedOf
   takes-first v w =
       let a = acknowledges (bitSet w 5 && not (bitSet (h .targets .word) 5)) in
-      record { first = refl; valid1 = refl; second = refl; valid2 = refl; word = refl; reached = sym (or-false (h .targets .reached && not (bitSet w 4))); pending = a .0; memory = a .1; inputs = a .2; zero = refl; adopted = refl; frozen = refl; kept = refl; m = refl; incremental = refl; start = refl; keys = refl }
+      record { first = refl; valid1 = refl; second = refl; valid2 = refl; word = refl; reached = ap (λ (b : Bool). stays h (after (Aim1 v w)) && b) (sym (or-false (h .targets .reached && not (bitSet w 4)))); acknowledged1 = refl; acknowledged2 = refl; pending = a .0; memory = a .1; inputs = a .2; zero = refl; adopted = refl; frozen = refl; kept = refl; m = refl; incremental = refl; start = refl; keys = refl }
 
   takes-second : (v w : ℕ) → Acted h (after (Aim2 v w)) (act false true false false false) v w
-  unfolding storedBy targetsBy settledOf secondAimed measurementBy faultsBy acknowledgedOf withinOf aimedOf
+  unfolding storedBy targetsBy turnedOf staysOf isDisplay givenOf settledOf secondAimed measurementBy faultsBy acknowledgedOf withinOf aimedOf
   takes-second v w =
       let a = acknowledges (bitSet w 5 && not (bitSet (h .targets .word) 5)) in
-      record { first = refl; valid1 = refl; second = refl; valid2 = refl; word = refl; reached = ap (λ (b : Bool). (h .targets .reached && not (bitSet w 4)) || b) (within-bit (after (Aim2 v w))); pending = a .0; memory = a .1; inputs = a .2; zero = refl; adopted = refl; frozen = refl; kept = refl; m = refl; incremental = refl; start = refl; keys = refl }
+      let t = targetsBy (Aim2 v w) (h .stored .values) (h .measurement) (h .targets) in
+      let e = ap (withinOf (h .stored .values) (h .measurement)) (sym (turned-same (setting h modePlace) t)) ∙ within-bit (after (Aim2 v w)) in
+      record { first = refl; valid1 = refl; second = refl; valid2 = refl; word = refl; reached = ap (λ (b : Bool). stays h (after (Aim2 v w)) && ((h .targets .reached && not (bitSet w 4)) || b)) e; acknowledged1 = refl; acknowledged2 = refl; pending = a .0; memory = a .1; inputs = a .2; zero = refl; adopted = refl; frozen = refl; kept = refl; m = refl; incremental = refl; start = refl; keys = refl }
 
   calibrating : (v w : ℕ) → Acted h (after Calibrate) (act false false true false false) v w
-  unfolding targetsBy measurementBy calibratedOf faultsBy
+  unfolding storedBy targetsBy turnedOf staysOf isDisplay measurementBy calibratedOf faultsBy
   calibrating v w =
-      record { first = refl; valid1 = refl; second = refl; valid2 = refl; word = refl; reached = refl; pending = pending-is; memory = memory-is; inputs = inputs-is; zero = refl; adopted = refl; frozen = refl; kept = refl; m = refl; incremental = refl; start = refl; keys = refl }
+      record { first = refl; valid1 = refl; second = refl; valid2 = refl; word = refl; reached = refl; acknowledged1 = refl; acknowledged2 = refl; pending = pending-is; memory = memory-is; inputs = inputs-is; zero = refl; adopted = refl; frozen = refl; kept = refl; m = refl; incremental = refl; start = refl; keys = refl }
 
   freezing : (v w : ℕ) → Acted h (after Freeze) (act false false false true false) v w
-  unfolding targetsBy measurementBy frozenOf faultsBy
+  unfolding storedBy targetsBy turnedOf staysOf isDisplay measurementBy frozenOf faultsBy
   freezing v w =
-      record { first = refl; valid1 = refl; second = refl; valid2 = refl; word = refl; reached = refl; pending = pending-is; memory = memory-is; inputs = inputs-is; zero = refl; adopted = refl; frozen = refl; kept = refl; m = refl; incremental = refl; start = refl; keys = refl }
+      record { first = refl; valid1 = refl; second = refl; valid2 = refl; word = refl; reached = refl; acknowledged1 = refl; acknowledged2 = refl; pending = pending-is; memory = memory-is; inputs = inputs-is; zero = refl; adopted = refl; frozen = refl; kept = refl; m = refl; incremental = refl; start = refl; keys = refl }
 
   emptying : (v w : ℕ) → Acted h (after Forget) (act false false false false true) v w
-  unfolding targetsBy measurementBy faultsBy
+  unfolding storedBy targetsBy turnedOf staysOf isDisplay measurementBy faultsBy
   emptying v w =
-      record { first = refl; valid1 = refl; second = refl; valid2 = refl; word = refl; reached = refl; pending = pending-is; memory = refl; inputs = inputs-is; zero = refl; adopted = refl; frozen = refl; kept = refl; m = refl; incremental = refl; start = refl; keys = refl }
+      record { first = refl; valid1 = refl; second = refl; valid2 = refl; word = refl; reached = refl; acknowledged1 = refl; acknowledged2 = refl; pending = pending-is; memory = refl; inputs = inputs-is; zero = refl; adopted = refl; frozen = refl; kept = refl; m = refl; incremental = refl; start = refl; keys = refl }
 
   storing : (i v w : ℕ) → Acted h (after (Store i v)) idle v w
   unfolding targetsBy measurementBy faultsBy

@@ -3,7 +3,7 @@
 use Prim.Native.Nat.{ℕ, _<_, _≤_}
 use native.Mathlib.Omega.{arith}
 use mathlib.Core.Path.{_≡_, refl, sym, _∙_, ap}
-use mathlib.Core.Bool.{Bool, true, false, cond, not, _&&_, true≢false}
+use mathlib.Core.Bool.{Bool, true, false, cond, not, _&&_, _||_, or-false, true≢false}
 use mathlib.Core.List.{List, [], _∷_}
 use borrow.Author.Tests.{eqb-true, le-leb, le-ltb}
 use lib.Dec.{eqb}
@@ -17,7 +17,9 @@ use Rattle.rows.specs.Table.{rows}
 use Rattle.rows.specs.Ranges.{allRightOf}
 use Rattle.state.specs.declared.parts.Head.{Head}
 use Rattle.state.specs.declared.parts.Faults.{Faults}
+use Rattle.state.specs.declared.parts.Targets.{Targets}
 use Rattle.state.specs.Settings.{calibrationKeyPlace, calibrationPlace, incrementalKeyPlace}
+use Rattle.state.specs.Mode.{isDisplay}
 use Rattle.state.specs.Errors.{emptyList}
 use Rattle.state.specs.Status.{aimedOf, statusOf, withinOf}
 use Rattle.state.specs.Wellformed.{inReachOf, wellformedOf}
@@ -25,7 +27,7 @@ use Rattle.state.proofs.Laws.{within-bit, status-fits, told, stored-told, offer
 use Rattle.effects.specs.Stored.{adoptedStored, restartedStored}
 use Rattle.effects.specs.Faults.{raisedOf, restartedFaults}
 use Rattle.effects.specs.Measured.{calibratedOf, switchedOf, movedOf, restartedMeasurement}
-use Rattle.effects.specs.Aimed.{noTargets, settledOf}
+use Rattle.effects.specs.Aimed.{noTargets, settledOf, lackingOf, allGivenOf}
 use Rattle.effects.specs.Restart.{emptyEar, stopped, restartedOf, withStored, adoptedOf, freshOf}
 use Rattle.reply.specs.Reply.{adoptionOf}
 use Rattle.reply.proofs.Replies.{adoption-sound, adoption-ten}
@@ -33,18 +35,18 @@ use Rattle.head.specs.declared.calls.Answer.the-variants as answer
 use Rattle.head.specs.declared.calls.Called.{Called}
 use Rattle.head.specs.declared.calls.Heard.the-variants as heard
 use Rattle.head.specs.Hear.{elapsedOf}
-use Rattle.head.specs.Moves.{overdueOf, tickedOf, measuredOf, upKey, pressedOf, leftOf, upOf, leftTaken, keyedOf, withKeys}
+use Rattle.head.specs.Moves.{overdueOf, tickedOf, measuredOf, upKey, pressedOf, leftOf, starOf, upOf, starTaken, keyedOf, withKeys, withTargets}
 use Rattle.head.specs.Outcome as alone
 use Rattle.head.specs.Calls.{nodeFits, madeOf, laidOn, fedWith, spaceWith, tickOf, measureOf, keysOf, keysSpaceOf, powerOf}
 use Rattle.head.proofs.Passes.{unanswered}
 use Rattle.demands.specs.Past.{since}
-use Rattle.demands.specs.Alone.{Taken, overdue, newly, adopts, setting, Restarted, Ticked, Measured, Keyed, Adopted, Announces, Announced, New}
+use Rattle.demands.specs.Alone.{Taken, overdue, newly, adopts, setting, displays, lacks, leftGives, starGives, Restarted, Ticked, Measured, Keyed, Adopted, Announces, Announced, New}
 use Rattle.demands.proofs.Sim.{fresh-values}
 
 pub restarted : (h : Head) → Restarted h (restartedOf h)
 unfolding restartedOf restartedStored restartedFaults restartedMeasurement noTargets stopped emptyEar emptyList
 restarted h =
-    record { values = refl; unlocked = refl; memory = refl; zero = refl; adopted = refl; m = refl; number = refl; baud = refl; offer = refl; first = refl; valid1 = refl; second = refl; valid2 = refl; word = refl; reached = refl; pending = refl; hit = refl; damaged = refl; inputs = refl; keys = refl; frozen = refl; kept = refl; incremental = refl; start = refl; running = refl; since′ = refl; gathered = refl }
+    record { values = refl; unlocked = refl; memory = refl; zero = refl; adopted = refl; m = refl; number = refl; baud = refl; offer = refl; first = refl; valid1 = refl; second = refl; valid2 = refl; word = refl; reached = refl; acknowledged1 = refl; acknowledged2 = refl; pending = refl; hit = refl; damaged = refl; inputs = refl; keys = refl; frozen = refl; kept = refl; incremental = refl; start = refl; running = refl; since′ = refl; gathered = refl }
 
 pub ticked : (h : Head) (t : ℕ) → Ticked h (tickedOf h t) t
 unfolding tickedOf overdueOf elapsedOf since raisedOf stopped
@@ -55,14 +57,15 @@ ticked h t = go (overdue h t) refl
     go false e = record { pending = rw e; memory = rw e; running = rw e; since′ = rw e; inputs = rw e; hit = rw e; damaged = rw e; stored = rw e; measurement = rw e; targets = rw e; ear = rw e; keys = rw e }
 
 pub measured : (h : Head) (m : ℤ) → Measured h (measuredOf h m) m
-unfolding measuredOf movedOf settledOf withinOf aimedOf
+unfolding measuredOf movedOf settledOf withinOf aimedOf isDisplay
 measured h m =
-    record { m = refl; reached = rw (← within-bit (measuredOf h m)); zero = refl; adopted = refl; incremental = refl; start = refl; frozen = refl; kept = refl; first = refl; valid1 = refl; second = refl; valid2 = refl; word = refl; stored = refl; faults = refl; monitor = refl; ear = refl; keys = refl }
+    record { m = refl; reached = ap (λ (b : Bool). h .targets .reached || b) (within-bit (measuredOf h m)); zero = refl; adopted = refl; incremental = refl; start = refl; frozen = refl; kept = refl; first = refl; valid1 = refl; second = refl; valid2 = refl; word = refl; acknowledged1 = refl; acknowledged2 = refl; stored = refl; faults = refl; monitor = refl; ear = refl; keys = refl }
 
--- ---- a key state: what left does, then what up does
+-- ---- a key state: what left does, then star, then up
 abbrev Left : Bool → Head → Head → Type 0
 Left on x y =
-    let calibrating = on && (eqb (x .faults .pending) 0 && eqb (setting x calibrationKeyPlace) 1) in
+    let giving = on && (eqb (x .faults .pending) 0 && lacks x) in
+    let calibrating = on && (eqb (x .faults .pending) 0 && (not (lacks x) && eqb (setting x calibrationKeyPlace) 1)) in
     (y .faults .pending ≡ cond on 0 (x .faults .pending))
     × (y .measurement .zero ≡ cond calibrating (x .measurement .m) (x .measurement .zero))
     × (y .measurement .adopted ≡ cond calibrating (setting x calibrationPlace) (x .measurement .adopted))
@@ -76,20 +79,36 @@ Left on x y =
     × (y .faults .hit ≡ x .faults .hit)
     × (y .faults .damaged ≡ x .faults .damaged)
     × (y .stored ≡ x .stored)
-    × (y .targets ≡ x .targets)
+    × (y .targets ≡ cond giving (allGivenOf (x .targets)) (x .targets))
     × (y .monitor ≡ x .monitor)
     × (y .ear ≡ x .ear)
     × (y .keys ≡ x .keys)
 
 left : (on : Bool) (x : Head) → Left on x (leftOf on x)
-unfolding leftOf calibratedOf
+unfolding leftOf calibratedOf isDisplay lackingOf
 left false x = (refl, refl, refl, refl, refl, refl, refl, refl, refl, refl, refl, refl, refl, refl, refl, refl, refl)
-left true x = go (eqb (x .faults .pending) 0) refl (eqb (setting x calibrationKeyPlace) 1) refl
+left true x = go (eqb (x .faults .pending) 0) refl (lacks x) refl (eqb (setting x calibrationKeyPlace) 1) refl
   where
-    go : (clear : Bool) → eqb (x .faults .pending) 0 ≡ clear → (may : Bool) → eqb (setting x calibrationKeyPlace) 1 ≡ may → Left true x (leftOf true x)
-    go false e may f = rw e (refl, refl, refl, refl, refl, refl, refl, refl, refl, refl, refl, refl, refl, refl, refl, refl, refl)
-    go true e true f = rw (e, f) (eqb-true (x .faults .pending) 0 e, refl, refl, refl, refl, refl, refl, refl, refl, refl, refl, refl, refl, refl, refl, refl, refl)
-    go true e false f = rw (e, f) (eqb-true (x .faults .pending) 0 e, refl, refl, refl, refl, refl, refl, refl, refl, refl, refl, refl, refl, refl, refl, refl, refl)
+    go : (clear : Bool) → eqb (x .faults .pending) 0 ≡ clear → (lacking : Bool) → lacks x ≡ lacking → (may : Bool) → eqb (setting x calibrationKeyPlace) 1 ≡ may
+        → Left true x (leftOf true x)
+    go false e l g may f = rw e (refl, refl, refl, refl, refl, refl, refl, refl, refl, refl, refl, refl, refl, refl, refl, refl, refl)
+    go true e true g may f = rw (e, g) (eqb-true (x .faults .pending) 0 e, refl, refl, refl, refl, refl, refl, refl, refl, refl, refl, refl, refl, refl, refl, refl, refl)
+    go true e false g true f = rw (e, g, f) (eqb-true (x .faults .pending) 0 e, refl, refl, refl, refl, refl, refl, refl, refl, refl, refl, refl, refl, refl, refl, refl, refl)
+    go true e false g false f = rw (e, g, f) (eqb-true (x .faults .pending) 0 e, refl, refl, refl, refl, refl, refl, refl, refl, refl, refl, refl, refl, refl, refl, refl, refl)
+
+-- star touches the targets alone
+abbrev Star : Bool → Head → Head → Type 0
+Star on x y =
+    (y .targets ≡ cond (on && (displays x && eqb (setting x 35) 2)) (allGivenOf (x .targets)) (x .targets))
+    × (y ≡ withTargets x (y .targets))
+
+star : (on : Bool) (x : Head) → Star on x (starOf on x)
+unfolding starOf isDisplay
+star on x = go (on && (displays x && eqb (setting x 35) 2)) refl
+  where
+    go : (b : Bool) → (on && (displays x && eqb (setting x 35) 2)) ≡ b → Star on x (starOf on x)
+    go true e = rw e (refl, refl)
+    go false e = rw e (refl, refl)
 
 abbrev Up : Bool → Head → Head → Type 0
 Up on x y =
@@ -117,30 +136,78 @@ up on x = go (on && eqb (setting x incrementalKeyPlace) 1) refl (x .measurement 
     go true e true f = rw (e, f) (refl, refl, refl, refl, refl, refl, refl, refl, refl, refl, refl, refl, refl)
     go true e false f = rw (e, f) (refl, refl, refl, refl, refl, refl, refl, refl, refl, refl, refl, refl, refl)
 
+-- what is acknowledged by left, and then by star
+twice : (a b : Bool) (t : Targets) → let g = cond b (allGivenOf (cond a (allGivenOf t) t)) (cond a (allGivenOf t) t) in
+    (g .acknowledged1 ≡ (t .acknowledged1 || ((a || b) && t .valid1)))
+    × (g .acknowledged2 ≡ (t .acknowledged2 || ((a || b) && t .valid2)))
+    × (g .first ≡ t .first)
+    × (g .valid1 ≡ t .valid1)
+    × (g .second ≡ t .second)
+    × (g .valid2 ≡ t .valid2)
+    × (g .word ≡ t .word)
+    × (g .reached ≡ t .reached)
+unfolding allGivenOf
+twice true true t = (again (t .acknowledged1) (t .valid1), again (t .acknowledged2) (t .valid2), refl, refl, refl, refl, refl, refl)
+  where
+    again : (x y : Bool) → ((x || y) || y) ≡ (x || y)
+    again true y = refl
+    again false true = refl
+    again false false = refl
+twice true false t = (refl, refl, refl, refl, refl, refl, refl, refl)
+twice false true t = (refl, refl, refl, refl, refl, refl, refl, refl)
+twice false false t = (sym (or-false (t .acknowledged1)), sym (or-false (t .acknowledged2)), refl, refl, refl, refl, refl, refl)
+
+module _ (h : Head) (s : ℕ) where
+  -- the head once left is taken, and once star is
+  abbrev lefted : Head
+  lefted = leftOf (newly 1 h s) (withKeys h s)
+
+  abbrev starred : Head
+  starred = starOf (newly 2 h s) lefted
+
+  left-told : Left (newly 1 h s) (withKeys h s) lefted
+  left-told = left (newly 1 h s) (withKeys h s)
+
+  star-told : Star (newly 2 h s) lefted starred
+  star-told = star (newly 2 h s) lefted
+
+  targets-told : starred .targets ≡ (let l = cond (leftGives h s) (allGivenOf (h .targets)) (h .targets) in cond (starGives h s) (allGivenOf l) l)
+  targets-told = star-told .0 ∙ rw (left-told .12, left-told .13)
+
 -- of a key state that adopts no number
-pub keyed : (h : Head) (s : ℕ) → Keyed h (upOf (pressedOf s (h .keys) upKey) (leftTaken h s)) s
+pub keyed : (h : Head) (s : ℕ) → Keyed h (upOf (pressedOf s (h .keys) upKey) (starTaken h s)) s
 unfolding pressedOf
 keyed h s =
-    let l = left (newly 1 h s) (withKeys h s) in
-    let u = up (newly 4 h s) (leftOf (newly 1 h s) (withKeys h s)) in
+    let l = left-told h s in
+    let k = star-told h s .1 in
+    let u = up (newly 4 h s) (starred h s) in
+    let g = twice (leftGives h s) (starGives h s) (h .targets) in
+    let t : upOf (newly 4 h s) (starred h s) .targets ≡ _ = u .9 ∙ targets-told h s in
     record {
-      keys = u .12 ∙ l .16;
-      pending = ap (λ (f : Faults). f .pending) (u .7) ∙ l .0;
-      zero = u .2 ∙ l .1;
-      adopted = u .3 ∙ l .2;
-      incremental = u .0 ∙ rw (l .12, l .3);
-      start = u .1 ∙ rw (l .12, l .3, l .5, l .4);
-      m = u .4 ∙ l .5;
-      frozen = u .5 ∙ l .6;
-      kept = u .6 ∙ l .7;
-      memory = ap (λ (f : Faults). f .memory) (u .7) ∙ l .8;
-      inputs = ap (λ (f : Faults). f .inputs) (u .7) ∙ l .9;
-      hit = ap (λ (f : Faults). f .hit) (u .7) ∙ l .10;
-      damaged = ap (λ (f : Faults). f .damaged) (u .7) ∙ l .11;
-      stored = u .8 ∙ l .12;
-      targets = u .9 ∙ l .13;
-      monitor = u .10 ∙ l .14;
-      ear = u .11 ∙ l .15;
+      keys = u .12 ∙ ap (λ (x : Head). x .keys) k ∙ l .16;
+      pending = ap (λ (f : Faults). f .pending) (u .7) ∙ ap (λ (x : Head). x .faults .pending) k ∙ l .0;
+      zero = u .2 ∙ ap (λ (x : Head). x .measurement .zero) k ∙ l .1;
+      adopted = u .3 ∙ ap (λ (x : Head). x .measurement .adopted) k ∙ l .2;
+      incremental = u .0 ∙ rw (ap (λ (x : Head). x .stored) k, ap (λ (x : Head). x .measurement) k, l .12, l .3);
+      start = u .1 ∙ rw (ap (λ (x : Head). x .stored) k, ap (λ (x : Head). x .measurement) k, l .12, l .3, l .5, l .4);
+      m = u .4 ∙ ap (λ (x : Head). x .measurement .m) k ∙ l .5;
+      frozen = u .5 ∙ ap (λ (x : Head). x .measurement .frozen) k ∙ l .6;
+      kept = u .6 ∙ ap (λ (x : Head). x .measurement .kept) k ∙ l .7;
+      memory = ap (λ (f : Faults). f .memory) (u .7) ∙ ap (λ (x : Head). x .faults .memory) k ∙ l .8;
+      inputs = ap (λ (f : Faults). f .inputs) (u .7) ∙ ap (λ (x : Head). x .faults .inputs) k ∙ l .9;
+      hit = ap (λ (f : Faults). f .hit) (u .7) ∙ ap (λ (x : Head). x .faults .hit) k ∙ l .10;
+      damaged = ap (λ (f : Faults). f .damaged) (u .7) ∙ ap (λ (x : Head). x .faults .damaged) k ∙ l .11;
+      stored = u .8 ∙ ap (λ (x : Head). x .stored) k ∙ l .12;
+      acknowledged1 = ap (λ (x : Targets). x .acknowledged1) t ∙ g .0;
+      acknowledged2 = ap (λ (x : Targets). x .acknowledged2) t ∙ g .1;
+      first = ap (λ (x : Targets). x .first) t ∙ g .2;
+      valid1 = ap (λ (x : Targets). x .valid1) t ∙ g .3;
+      second = ap (λ (x : Targets). x .second) t ∙ g .4;
+      valid2 = ap (λ (x : Targets). x .valid2) t ∙ g .5;
+      word = ap (λ (x : Targets). x .word) t ∙ g .6;
+      reached = ap (λ (x : Targets). x .reached) t ∙ g .7;
+      monitor = u .10 ∙ ap (λ (x : Head). x .monitor) k ∙ l .14;
+      ear = u .11 ∙ ap (λ (x : Head). x .ear) k ∙ l .15;
     }
 
 -- of one that does: the number is stored, which the values have a place for
@@ -149,21 +216,23 @@ unfolding allRightOf rows
 some-value [] e = absurd (true≢false (sym e))
 some-value (v ∷ vs) e = omega arith
 
-adopted : (h : Head) (s : ℕ) → wellformedOf h ≡ true → Adopted h (adoptedOf (leftTaken h s)) s
+adopted : (h : Head) (s : ℕ) → wellformedOf h ≡ true → Adopted h (adoptedOf (starTaken h s)) s
 unfolding adoptedOf adoptedStored pressedOf
 adopted h s w =
-    let l = left (newly 1 h s) (withKeys h s) in
+    let l = left-told h s in
+    let k = star-told h s .1 in
+    let st : starred h s .stored ≡ h .stored = ap (λ (x : Head). x .stored) k ∙ l .12 in
     let n = some-value (h .stored .values) (stored-told (h .stored) (told h w .stored) .values) in
     record {
-      before = withStored (leftTaken h s) (adoptedStored (leftTaken h s .stored));
+      before = withStored (starTaken h s) (adoptedStored (starTaken h s .stored));
       adopting = record {
-        node = rw (l .12) (getD-set-same (h .stored .values) 0 (h .stored .offer) 0 n);
-        values = λ r ne. rw (l .12) (getD-set-other (h .stored .values) 0 r (h .stored .offer) 0 ne);
-        unlocked = rw (l .12);
-        zero = l .1;
-        adopted = l .2;
-        m = l .5;
-        memory = l .8;
+        node = rw st (getD-set-same (h .stored .values) 0 (h .stored .offer) 0 n);
+        values = λ r ne. rw st (getD-set-other (h .stored .values) 0 r (h .stored .offer) 0 ne);
+        unlocked = rw st;
+        zero = ap (λ (x : Head). x .measurement .zero) k ∙ l .1;
+        adopted = ap (λ (x : Head). x .measurement .adopted) k ∙ l .2;
+        m = ap (λ (x : Head). x .measurement .m) k ∙ l .5;
+        memory = ap (λ (x : Head). x .faults .memory) k ∙ l .8;
       };
       restarted = restarted _;
     }
@@ -215,12 +284,12 @@ announced h space k =
     }
 
 -- the two ways of a key state
-keyed-up : (h : Head) (s : ℕ) → adopts h s ≡ false → keyedOf h s ≡ unanswered (upOf (pressedOf s (h .keys) upKey) (leftTaken h s))
+keyed-up : (h : Head) (s : ℕ) → adopts h s ≡ false → keyedOf h s ≡ unanswered (upOf (pressedOf s (h .keys) upKey) (starTaken h s))
 unfolding keyedOf pressedOf
 keyed-up h s e = rw e
 
 keyed-adopts : (h : Head) (s : ℕ) → adopts h s ≡ true
-    → keyedOf h s ≡ record { head = adoptedOf (leftTaken h s); replied = true; reply = adoptionOf (statusOf h) (h .stored .offer) }
+    → keyedOf h s ≡ record { head = adoptedOf (starTaken h s); replied = true; reply = adoptionOf (statusOf h) (h .stored .offer) }
 unfolding keyedOf pressedOf
 keyed-adopts h s e = rw e
 

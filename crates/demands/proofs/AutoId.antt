@@ -31,7 +31,9 @@ use Rattle.state.specs.declared.parts.Stored as parts
 use Rattle.effects.specs.Stored.{withOffer, storedBy}
 use Rattle.effects.specs.Faults.{complainedOf, faultsBy}
 use Rattle.effects.specs.Measured.{measurementBy}
+use Rattle.state.specs.Settings.{modePlace}
 use Rattle.effects.specs.Aimed.{targetsBy}
+use Rattle.effects.proofs.Turns.{turned-same}
 use Rattle.effects.specs.Restart.{withStored}
 use Rattle.reply.specs.Reply.{silence, valueReply, replyOf}
 use Rattle.reply.proofs.Replies.{silent-none}
@@ -92,7 +94,7 @@ module _ (h : Head) (ten : List ℕ) where
 
     told-offer : (at : ℕ) → toldOf j h at ≡ withStored (passedOf h at) (withOffer (h .stored) (t .value))
     unfolding toldOf storedBy faultsBy complainedOf measurementBy targetsBy restartsOf passedOf judgedOf
-    told-offer at = rw (offers, obeyed, a .sound)
+    told-offer at = rw (offers, obeyed, a .sound, turned-same (alone.setting h modePlace) (h .targets))
 
   -- one outside the range is refused, and the offer is dropped
   told-drop : (at : ℕ) → t .parameter ≡ 0xD2 → (j .verdict ≡ Refused Below) ⊎ (j .verdict ≡ Refused Above) → toldOf j h at .stored .offer ≡ 0

@@ -1,17 +1,19 @@
 -- The status word, bit by bit: a sum of weights, each once or not at all.
 -- Assumes nothing.
-use Prim.Native.Nat.{ℕ, _+_, _*_, _/_, _%_, _^_, _≤_, _<_}
-use mathlib.Core.Path.{_≡_, refl, _∙_}
-use mathlib.Core.Bool.{Bool, true, false, not, _&&_}
+use Prim.Native.Nat.{ℕ, _+_, _*_, _/_, _%_, _^_, _≤_}
+use mathlib.Core.Path.{_≡_, refl}
+use mathlib.Core.Bool.{Bool, true, false, cond, not, _&&_}
 use native.Mathlib.Omega.{arith}
 use lib.Dec.{eqb}
 use lib.Signed.{ltZ}
 use Rattle.state.specs.declared.parts.Head.{Head}
 use Rattle.state.specs.Settings.{window1Place, window2Place}
 use Rattle.state.specs.Bits.{bit, bitSet}
-use Rattle.state.specs.Status.{aimOf, aimBitsOf, restBitsOf, aimedOf, statusOf}
+use Rattle.state.specs.Mode.{isDisplay}
+use Rattle.state.specs.Status.{aimOf, aimBitsOf, acknowledgedBitsOf, restBitsOf, aimedOf, statusOf}
 use Rattle.state.proofs.Bits.{bit-most, bit-weighs}
 use Rattle.state.proofs.Laws.{status-fits}
+use Rattle.demands.specs.Alone.{displays}
 use Rattle.demands.specs.Bits.{actual, aimed, near, onward, Bits}
 
 is-set : (w n : ℕ) (on : Bool) → w / 2 ^ n % 2 ≡ bit 0 on → bitSet w n ≡ on
@@ -45,25 +47,25 @@ module _ (b0 b1 b2 b3 b4 b5 b6 b7 b8 b9 b10 k : ℕ) where
 
 module _ (h : Head) where
   abbrev on0 : Bool
-  on0 = h .targets .valid2 && (not (near h window1Place) && onward h)
+  on0 = not (displays h) && (h .targets .valid2 && (not (near h window1Place) && onward h))
 
   abbrev on1 : Bool
-  on1 = h .targets .valid2 && (not (near h window1Place) && not (onward h))
+  on1 = not (displays h) && (h .targets .valid2 && (not (near h window1Place) && not (onward h)))
 
   abbrev on2 : Bool
   on2 = h .targets .valid1
 
   abbrev on3 : Bool
-  on3 = h .targets .valid2 && near h window2Place
+  on3 = cond (displays h) (h .targets .acknowledged1) (h .targets .valid2 && near h window2Place)
 
   abbrev on4 : Bool
-  on4 = h .targets .reached
+  on4 = not (displays h) && h .targets .reached
 
   abbrev on5 : Bool
-  on5 = h .targets .valid2 && near h window1Place
+  on5 = cond (displays h) (h .targets .acknowledged2) (h .targets .valid2 && near h window1Place)
 
   abbrev on6 : Bool
-  on6 = h .targets .valid2 && ltZ (aimed h) (actual h)
+  on6 = not (displays h) && (h .targets .valid2 && ltZ (aimed h) (actual h))
 
   abbrev on7 : Bool
   on7 = not (eqb (h .faults .pending) 0)
@@ -72,7 +74,7 @@ module _ (h : Head) where
   on8 = h .measurement .frozen
 
   abbrev on9 : Bool
-  on9 = h .measurement .incremental
+  on9 = cond (displays h) (bitSet (h .targets .word) 7) (h .measurement .incremental)
 
   abbrev on10 : Bool
   on10 = h .targets .valid2
@@ -80,9 +82,17 @@ module _ (h : Head) where
   abbrev keys : ℕ
   keys = h .keys % 8
 
-  status-is : statusOf h ≡ bit 0 on0 + 2 * bit 0 on1 + 4 * bit 0 on2 + 8 * bit 0 on3 + 16 * bit 0 on4 + 32 * bit 0 on5 + 64 * bit 0 on6 + 128 * bit 0 on7 + 256 * bit 0 on8 + 512 * bit 0 on9 + 1024 * bit 0 on10 + 8192 * keys
-  unfolding statusOf aimBitsOf restBitsOf aimedOf aimOf
-  status-is = omega (arith, bit-weighs 1 on1, bit-weighs 2 on2, bit-weighs 3 on3, bit-weighs 4 on4, bit-weighs 5 on5, bit-weighs 6 on6, bit-weighs 7 on7, bit-weighs 8 on8, bit-weighs 9 on9, bit-weighs 10 on10)
+  -- the weights in their order, by whether the head displays
+  abbrev weighed : ℕ
+  weighed = bit 0 on0 + 2 * bit 0 on1 + 4 * bit 0 on2 + 8 * bit 0 on3 + 16 * bit 0 on4 + 32 * bit 0 on5 + 64 * bit 0 on6 + 128 * bit 0 on7 + 256 * bit 0 on8 + 512 * bit 0 on9 + 1024 * bit 0 on10 + 8192 * keys
+
+  status-is : statusOf h ≡ weighed
+  unfolding statusOf aimBitsOf acknowledgedBitsOf restBitsOf aimedOf aimOf isDisplay
+  status-is = go (displays h) refl
+    where
+      go : (b : Bool) → displays h ≡ b → statusOf h ≡ weighed
+      go true e = rw e (omega (arith, bit-weighs 2 on2, bit-weighs 3 (h .targets .acknowledged1), bit-weighs 5 (h .targets .acknowledged2), bit-weighs 7 on7, bit-weighs 8 on8, bit-weighs 9 (bitSet (h .targets .word) 7), bit-weighs 10 on10))
+      go false e = rw e (omega (arith, bit-weighs 1 (h .targets .valid2 && (not (near h window1Place) && not (onward h))), bit-weighs 2 on2, bit-weighs 3 (h .targets .valid2 && near h window2Place), bit-weighs 4 (h .targets .reached), bit-weighs 5 (h .targets .valid2 && near h window1Place), bit-weighs 6 (h .targets .valid2 && ltZ (aimed h) (actual h)), bit-weighs 7 on7, bit-weighs 8 on8, bit-weighs 9 (h .measurement .incremental), bit-weighs 10 on10))
 
   pub bits : Bits h
   bits =

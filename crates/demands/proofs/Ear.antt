@@ -142,6 +142,30 @@ ear-whole h g b t e n =
     let ten : set (keptEar (h .ear) t .bytes) 9 b ≡ gather g b t = sym (take-all 10 _ small) ∙ rw nine at (joined h g b t e) in
     whole-is h g b t e q ∙ ap (λ (l : List ℕ). tellOf h l t) ten
 
+-- the same of any head, by the bytes that stand in its ear
+module _ (h : Head) (b t : ℕ) (few : h .ear .count ≤ 9) (long : length (h .ear .bytes) ≡ 10) where
+  abbrev own : past.Ear
+  own = record { bytes = take (h .ear .count) (h .ear .bytes); last = h .ear .at }
+
+  own-got : Gathered h own
+  own-got = record { few = few; long = long; got-is = refl; time-is = inr refl }
+
+  pub heard-whole : 10 ≤ length (gather own b t) → (gatheredOf (h .ear) b t .whole ≡ true) × (gatheredOf (h .ear) b t .ten ≡ gather own b t)
+  unfolding gatheredOf
+  heard-whole n =
+      let q : 9 ≤ keptEar (h .ear) t .count = omega (arith, long-is h own b t own-got) in
+      let nine : keptEar (h .ear) t .count ≡ 9 = omega (arith, inside h own b t own-got .few) in
+      let small : length (set (keptEar (h .ear) t .bytes) 9 b) ≤ 10 = omega (arith, length-set (keptEar (h .ear) t .bytes) 9 b, inside h own b t own-got .long) in
+      let ten : set (keptEar (h .ear) t .bytes) 9 b ≡ gather own b t = sym (take-all 10 _ small) ∙ rw nine at (joined h own b t own-got) in
+      rw (le-ltb (keptEar (h .ear) t .count) 9 q) (refl, ten)
+
+  pub heard-short : length (gather own b t) < 10
+      → (gatheredOf (h .ear) b t .whole ≡ false) × (take (gatheredOf (h .ear) b t .ear .count) (gatheredOf (h .ear) b t .ear .bytes) ≡ gather own b t)
+  unfolding gatheredOf
+  heard-short n =
+      let p : keptEar (h .ear) t .count < 9 = omega (arith, long-is h own b t own-got) in
+      rw (lt-ltb (keptEar (h .ear) t .count) 9 p) (refl, one-more h own b t own-got p .got-is)
+
 -- and none stands gathered then
 pub told-none : (h : Head) (ten : List ℕ) (t : ℕ) (g : past.Ear) → g .bytes ≡ [] → Gathered (tellOf h ten t .head) g
 unfolding tellOf emptyEar

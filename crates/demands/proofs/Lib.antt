@@ -30,6 +30,7 @@ pub mod AutoId
 pub mod Unseen
 pub mod Offering
 pub mod Sheets
+pub mod Displays
 pub mod Proved
 pub mod Ordered
 pub mod Proposed
@@ -40,5 +41,6 @@ pub mod WrongHits
 pub mod WrongOffers
 pub mod WrongWords
 pub mod WrongSheets
+pub mod WrongDisplay
 pub mod Real
 pub mod Outcomes

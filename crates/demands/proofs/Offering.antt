@@ -10,11 +10,14 @@ use Rattle.judge.specs.declared.judged.Judged.{Judged}
 use Rattle.judge.specs.Judged.{judgedOf}
 use Rattle.state.specs.declared.parts.Head.{Head}
 use Rattle.state.specs.declared.parts.Stored as parts
+use Rattle.state.specs.Settings.{valueAt, modePlace}
 use Rattle.state.specs.Status.{statusOf}
 use Rattle.effects.specs.Stored.{lockedOf, withOffer, restartedStored, storedBy}
+use Rattle.effects.specs.Aimed.{turnedOf, targetsBy}
 use Rattle.effects.specs.Restart.{withStored, restartedOf}
 use Rattle.reply.specs.declared.Said.{Said}
 use Rattle.head.specs.Hear.{standingOf, restartsOf, affectedOf, toldOf, tellOf, stepOf}
+use Rattle.head.specs.Moves.{withTargets}
 use Rattle.demands.specs.Run.{product}
 use Rattle.demands.specs.Unseen.{offering, AlikeOffered, OfferUnseen}
 use Rattle.demands.proofs.Apart as apart
@@ -44,7 +47,13 @@ module _ (h : Head) (n : ℕ) where
   other = offering h n
 
   affected-offered : (j : Judged) (t : ℕ) → AlikeOffered (affectedOf j other t) (affectedOf j h t)
-  affected-offered j t = ap (withStored (affectedOf j h t)) (deed-offered (j .deed) (h .stored) n)
+  affected-offered j t = ap storing (deed-offered (j .deed) (h .stored) n)
+    where
+      -- the targets turn by the values that are stored, which no offer is among
+      storing : parts.Stored → Head
+      storing s =
+          withTargets (withStored (affectedOf j h t) s)
+          (turnedOf (valueAt (h .stored .values) modePlace) (valueAt (s .values) modePlace) (targetsBy (j .deed) (h .stored .values) (h .measurement) (h .targets)))
 
   told-offered : (j : Judged) (t : ℕ) → AlikeOffered (toldOf j other t) (toldOf j h t)
   unfolding toldOf restartedOf restartedStored

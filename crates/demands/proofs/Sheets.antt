@@ -21,6 +21,8 @@ use Rattle.rows.specs.Ranges.{rangeOf, isRight, fitsIn, allIn, allRightOf}
 use Rattle.rows.proofs.Laws.{row-place, place-below, place-address}
 use Rattle.rows.proofs.Groups.{stored-at}
 use Rattle.state.specs.declared.parts.Head.{Head}
+use Rattle.state.specs.Mode.{isDisplay}
+use Rattle.effects.specs.Aimed.{staysOf, turnedOf}
 use Rattle.state.specs.Wellformed.{wellformedOf}
 use Rattle.state.proofs.Laws.{told, stored-told}
 use Rattle.sheet.specs.declared.refusal.Refusal as sheet
@@ -159,7 +161,7 @@ values-stored v s long is =
     }
 
 loaded-is : (h : Head) (s : List ℕ) → wellformedOf h ≡ true → wellFormedOf s ≡ true → Loaded h (head.loadedOf h s) s
-unfolding head.loadedOf
+unfolding head.loadedOf turnedOf staysOf isDisplay
 loaded-is h s w f =
     record {
       values = values-stored (h .stored .values) s (well-long h w) (sheet-told s f);
@@ -169,7 +171,7 @@ loaded-is h s w f =
       offer = refl;
       faults = refl;
       measurement = refl;
-      targets = refl;
+      targets = record { first = refl; valid1 = refl; second = refl; valid2 = refl; word = refl; reached = refl; acknowledged1 = refl; acknowledged2 = refl };
       monitor = refl;
       ear = refl;
       keys = refl;

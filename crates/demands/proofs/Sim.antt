@@ -18,15 +18,17 @@ use Rattle.judge.specs.Judged.{judgedOf}
 use Rattle.state.specs.declared.parts.Head.{Head}
 use Rattle.state.specs.declared.parts.Stored.{Stored}
 use Rattle.state.specs.declared.parts.Ear.{Ear}
-use Rattle.state.specs.Settings.{valueAt, timeoutPlace, calibrationKeyPlace, incrementalKeyPlace}
+use Rattle.state.specs.Settings.{valueAt, timeoutPlace, calibrationKeyPlace, incrementalKeyPlace, acknowledgementPlace}
+use Rattle.state.specs.Mode.{displayOf}
 use Rattle.state.specs.Status.{statusOf}
 use Rattle.state.specs.Wellformed.{inReachOf}
 use Rattle.effects.specs.Stored.{lockedOf, adoptedStored, restartedStored}
+use Rattle.effects.specs.Aimed.{lackingOf}
 use Rattle.effects.specs.Restart.{emptyEar, restartedOf, withStored, adoptedOf, deliveredOf, freshOf}
 use Rattle.reply.specs.Reply.{adoptionOf}
 use Rattle.head.specs.declared.hear.Stepped.{Stepped}
 use Rattle.head.specs.Hear.{elapsedOf, standingOf, stepOf, tellOf}
-use Rattle.head.specs.Moves.{overdueOf, tickedOf, measuredOf, leftKey, upKey, leftOf, upOf, pressedOf, withKeys, leftTaken, adoptsOf, keyedOf}
+use Rattle.head.specs.Moves.{overdueOf, tickedOf, measuredOf, leftKey, starKey, upKey, leftOf, starOf, upOf, pressedOf, withKeys, starTaken, adoptsOf, keyedOf}
 use Rattle.head.specs.Outcome as alone
 use Rattle.line.specs.Calls.{emptyOf, fitsOf}
 use Rattle.line.proofs.Theorems.{empty-fits}
@@ -127,7 +129,13 @@ unfolding leftOf
 left-keeps false h = same
 left-keeps true h =
     either-keeps h (not (eqb (h .faults .pending) 0)) _ _ (record { stored = refl; ear = refl; keys = refl })
-    (either-keeps h (eqb (valueAt (h .stored .values) calibrationKeyPlace) 1) _ _ (record { stored = refl; ear = refl; keys = refl }) same)
+    (either-keeps h (displayOf (h .stored .values) && lackingOf (h .targets)) _ _ (record { stored = refl; ear = refl; keys = refl })
+    (either-keeps h (eqb (valueAt (h .stored .values) calibrationKeyPlace) 1) _ _ (record { stored = refl; ear = refl; keys = refl }) same))
+
+star-keeps : (on : Bool) (h : Head) → Keeps h (starOf on h)
+unfolding starOf
+star-keeps on h =
+    either-keeps h (on && (displayOf (h .stored .values) && eqb (valueAt (h .stored .values) acknowledgementPlace) 2)) _ _ (record { stored = refl; ear = refl; keys = refl }) same
 
 up-keeps : (on : Bool) (h : Head) → Keeps h (upOf on h)
 unfolding upOf
@@ -191,16 +199,19 @@ module _ (h : Head) (e : Entry) (A : Is h e) where
   cut-is ear =
       changed cutting ear (restartedOf h) (record { size = refl; vals = λ r lt. refl; force = refl; lock = refl; offer = refl }) (restarted-none h) refl
 
-  -- ---- keys: left and up, or an adoption
-  left-is : (s : ℕ) → Keeps (withKeys h s) (leftTaken h s)
-  left-is s = left-keeps (pressedOf s (h .keys) leftKey) (withKeys h s)
+  -- ---- keys: left, star and up, or an adoption
+  taken-is : (s : ℕ) → Keeps (withKeys h s) (starTaken h s)
+  taken-is s =
+      let l = leftOf (pressedOf s (h .keys) leftKey) (withKeys h s) in
+      let a = left-keeps (pressedOf s (h .keys) leftKey) (withKeys h s) in
+      let b = star-keeps (pressedOf s (h .keys) starKey) l in record { stored = b .stored ∙ a .stored; ear = b .ear ∙ a .ear; keys = b .keys ∙ a .keys }
 
-  pressed-up : (s : ℕ) → Is (upOf (pressedOf s (h .keys) upKey) (leftTaken h s)) (next (pressing s) (e .ear) e)
+  pressed-up : (s : ℕ) → Is (upOf (pressedOf s (h .keys) upKey) (starTaken h s)) (next (pressing s) (e .ear) e)
   unfolding look
   pressed-up s =
-      let a = left-is s in
-      let b = up-keeps (pressedOf s (h .keys) upKey) (leftTaken h s) in
-      let x = upOf (pressedOf s (h .keys) upKey) (leftTaken h s) in
+      let a = taken-is s in
+      let b = up-keeps (pressedOf s (h .keys) upKey) (starTaken h s) in
+      let x = upOf (pressedOf s (h .keys) upKey) (starTaken h s) in
       let u = unchanged x (b .stored ∙ a .stored) in
       changed (pressing s) (e .ear) x (record { size = u .size; vals = u .vals; force = u .force; lock = u .lock; offer = u .offer })
       (same-ear x (b .ear ∙ a .ear)) (b .keys ∙ a .keys)
@@ -217,11 +228,11 @@ module _ (h : Head) (e : Entry) (A : Is h e) where
         offer = refl;
       }
 
-  adopted-is : (s : ℕ) → Is (adoptedOf (leftTaken h s)) (next (adopting (e .offer)) (e .ear) e)
+  adopted-is : (s : ℕ) → Is (adoptedOf (starTaken h s)) (next (adopting (e .offer)) (e .ear) e)
   unfolding adoptedOf restartedOf
   adopted-is s =
-      changed (adopting (e .offer)) (e .ear) (adoptedOf (leftTaken h s)) (adoption-becomes (leftTaken h s .stored) (left-is s .stored))
-      (restarted-none (withStored (leftTaken h s) (adoptedStored (leftTaken h s .stored)))) refl
+      changed (adopting (e .offer)) (e .ear) (adoptedOf (starTaken h s)) (adoption-becomes (starTaken h s .stored) (taken-is s .stored))
+      (restarted-none (withStored (starTaken h s) (adoptedStored (starTaken h s .stored)))) refl
 
   pub adopts-is : (s : ℕ) → adoptsOf h s ≡ adopts s e
   unfolding pressedOf
@@ -235,7 +246,7 @@ module _ (h : Head) (e : Entry) (A : Is h e) where
       announcing x = record { head = x; replied = true; reply = adoptionOf (statusOf h) (h .stored .offer) }
 
       go : (x y : Bool)
-          → Is (cond x (cond y (announcing (adoptedOf (leftTaken h s))) (unanswered (upOf (pressedOf s (h .keys) upKey) (leftTaken h s))) .head) h)
+          → Is (cond x (cond y (announcing (adoptedOf (starTaken h s))) (unanswered (upOf (pressedOf s (h .keys) upKey) (starTaken h s))) .head) h)
           (next (cond x (cond y (adopting (e .offer)) (pressing s)) nothing) (e .ear) e)
       go true true = adopted-is s
       go true false = pressed-up s

@@ -45,11 +45,14 @@ use Rattle.state.specs.declared.parts.Head.{Head}
 use Rattle.state.specs.declared.parts.Stored as parts
 use Rattle.state.specs.declared.parts.Faults.{Faults}
 use Rattle.state.specs.Bits.{bitSet}
+use Rattle.state.specs.Settings.{modePlace}
+use Rattle.state.specs.Mode.{isDisplay}
 use Rattle.state.specs.Errors.{rememberedOf}
 use Rattle.effects.specs.Stored.{storedBy}
 use Rattle.effects.specs.Faults.{withInputs, withPending, withDamaged, withHit, raisedOf, countedOf, complainedOf, acknowledgedOf, restartedFaults, faultsBy}
 use Rattle.effects.specs.Measured.{measurementBy, releasedOf}
-use Rattle.effects.specs.Aimed.{targetsBy, clearedOf}
+use Rattle.effects.specs.Aimed.{staysOf, turnedOf, targetsBy, clearedOf}
+use Rattle.effects.proofs.Turns.{turned-same}
 use Rattle.effects.specs.Restart.{restartedOf}
 use Rattle.reply.specs.declared.Said.{Said}
 use Rattle.reply.specs.Word.{carriedOf}
@@ -59,7 +62,7 @@ use Rattle.head.specs.declared.calls.Heard.the-variants as heard
 use Rattle.head.specs.Hear.{gatheredOf, standingOf, restartsOf, startedOf, affectedOf, toldOf}
 use Rattle.head.proofs.Refused.{Unheeded, silent, refused, unheeded-only}
 use Rattle.demands.specs.Run.{product}
-use Rattle.demands.specs.Alone.{Taken}
+use Rattle.demands.specs.Alone.{Taken, setting, Turned}
 use Rattle.demands.specs.Every.{Copies, Polled, Damaged, mine, readable}
 use Rattle.demands.proofs.Sorts.{value-kind, value-assignment}
 use Rattle.demands.proofs.Answers.{obeys, answers, keeps-silent}
@@ -215,7 +218,7 @@ read-obeyed t s c m WriteOnly a r n = absurd (true≢false (sym r))
 read-obeyed t s c m Unknown a r n = absurd (true≢false (sym r))
 
 -- ---- what a read does: nothing, or it clears the static bit, or releases
-abbrev Still : ℕ → Deed → Type 0
+abbrev pub Still : ℕ → Deed → Type 0
 Still a d = (d ≡ Nothing) ⊎ (((d ≡ ClearStatic) × (a ≡ 0xFA)) ⊎ ((d ≡ Release) × (a ≡ 0xFE)))
 
 shown-still : (a : ℕ) → Still a (shownBy a)
@@ -232,7 +235,7 @@ refused-idle : (P : Deed → Type 0) (f : Fault) (a : ℕ) → drops (Refused f)
 unfolding refusedBy
 refused-idle P f a e p = rw e p
 
-read-still : (ten : List ℕ) (h : Head) → fieldsOf ten .command ≡ 0 → Still (fieldsOf ten .parameter) (judgedOf ten (standingOf h) .deed)
+pub read-still : (ten : List ℕ) (h : Head) → fieldsOf ten .command ≡ 0 → Still (fieldsOf ten .parameter) (judgedOf ten (standingOf h) .deed)
 unfolding judgedOf deedOf commandOf
 read-still ten h c = go (verdictOf (hitOf ten) (fieldsOf ten) (standingOf h)) refl
   where
@@ -267,10 +270,10 @@ write-sets ten h r lt c p = go (judgedOf ten (standingOf h) .verdict)
         refused-idle (λ d. Setting d r (fieldsOf ten .value)) f (fieldsOf ten .parameter) (drops-elsewhere (Refused f) (fieldsOf ten .parameter) apart) (inl refl)
 
 pub setting-keeps : (j : Judged) (h : Head) (t : ℕ) {i w : ℕ} → Setting (j .deed) i w
-    → (toldOf j h t .measurement ≡ h .measurement) × (toldOf j h t .targets ≡ h .targets)
-unfolding toldOf measurementBy targetsBy restartsOf
-setting-keeps j h t (inl e) = rw e (refl, refl)
-setting-keeps j h t (inr e) = rw e (refl, refl)
+    → (toldOf j h t .measurement ≡ h .measurement) × Turned h (toldOf j h t)
+unfolding toldOf storedBy measurementBy targetsBy turnedOf staysOf isDisplay restartsOf
+setting-keeps j h t (inl e) = rw e (refl, record { first = refl; valid1 = refl; second = refl; valid2 = refl; word = refl; reached = refl; acknowledged1 = refl; acknowledged2 = refl })
+setting-keeps j h t (inr e) = rw e (refl, record { first = refl; valid1 = refl; second = refl; valid2 = refl; word = refl; reached = refl; acknowledged1 = refl; acknowledged2 = refl })
 
 -- ---- what no deed but a restart changes
 abbrev Stays : Deed → parts.Stored → Type 0
@@ -372,11 +375,11 @@ still-polls j h t a still = go still
 
     go : Still a (j .deed) → Polled h (toldOf j h t) a (j .hit)
     go (inl e) =
-        rw e (record { stored = refl; first = refl; valid1 = refl; second = refl; valid2 = refl; word = refl; m = refl; zero = refl; adopted = refl; incremental = refl; start = refl; keys = refl; reached = λ n. refl; frozen = λ n. refl; kept = λ n. refl; pending = λ s. entered (j .hit) s .0; memory = λ s. entered (j .hit) s .1 })
+        rw (e, turned-same (setting h modePlace) (h .targets)) (record { stored = refl; first = refl; valid1 = refl; second = refl; valid2 = refl; word = refl; acknowledged1 = refl; acknowledged2 = refl; m = refl; zero = refl; adopted = refl; incremental = refl; start = refl; keys = refl; reached = λ n. refl; frozen = λ n. refl; kept = λ n. refl; pending = λ s. entered (j .hit) s .0; memory = λ s. entered (j .hit) s .1 })
     go (inr (inl (e, p))) =
-        rw e (record { stored = refl; first = refl; valid1 = refl; second = refl; valid2 = refl; word = refl; m = refl; zero = refl; adopted = refl; incremental = refl; start = refl; keys = refl; reached = λ n. absurd (n p); frozen = λ n. refl; kept = λ n. refl; pending = λ s. entered (j .hit) s .0; memory = λ s. entered (j .hit) s .1 })
+        rw (e, turned-same (setting h modePlace) (clearedOf (h .targets))) (record { stored = refl; first = refl; valid1 = refl; second = refl; valid2 = refl; word = refl; acknowledged1 = refl; acknowledged2 = refl; m = refl; zero = refl; adopted = refl; incremental = refl; start = refl; keys = refl; reached = λ n. absurd (n p); frozen = λ n. refl; kept = λ n. refl; pending = λ s. entered (j .hit) s .0; memory = λ s. entered (j .hit) s .1 })
     go (inr (inr (e, p))) =
-        rw e (record { stored = refl; first = refl; valid1 = refl; second = refl; valid2 = refl; word = refl; m = refl; zero = refl; adopted = refl; incremental = refl; start = refl; keys = refl; reached = λ n. refl; frozen = λ n. absurd (n p); kept = λ n. absurd (n p); pending = λ s. entered (j .hit) s .0; memory = λ s. entered (j .hit) s .1 })
+        rw (e, turned-same (setting h modePlace) (h .targets)) (record { stored = refl; first = refl; valid1 = refl; second = refl; valid2 = refl; word = refl; acknowledged1 = refl; acknowledged2 = refl; m = refl; zero = refl; adopted = refl; incremental = refl; start = refl; keys = refl; reached = λ n. refl; frozen = λ n. absurd (n p); kept = λ n. absurd (n p); pending = λ s. entered (j .hit) s .0; memory = λ s. entered (j .hit) s .1 })
 
 pub read-polls : (ten : List ℕ) (h : Head) (t : ℕ) → fieldsOf ten .command ≡ 0
     → Polled h (toldOf (judgedOf ten (standingOf h)) h t) (fieldsOf ten .parameter) (hitOf ten)

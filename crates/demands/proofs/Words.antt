@@ -32,13 +32,16 @@ use Rattle.state.specs.Bits.{bitSet}
 use Rattle.state.specs.Status.{statusOf}
 use Rattle.state.proofs.Laws.{status-fits}
 use Rattle.effects.specs.Measured.{measurementBy, releasedOf}
+use Rattle.state.specs.Settings.{modePlace}
+use Rattle.effects.specs.Stored.{storedBy}
 use Rattle.effects.specs.Aimed.{targetsBy, clearedOf}
+use Rattle.effects.proofs.Turns.{turned-same}
 use Rattle.reply.specs.Word.{keepsOld, carriedOf}
 use Rattle.reply.specs.Reply.{positionWord, readOf, silence, valueReply, replyOf}
 use Rattle.head.specs.declared.calls.Heard.the-variants as heard
 use Rattle.head.specs.Hear.{gatheredOf, standingOf, restartsOf, toldOf}
 use Rattle.demands.specs.Run.{product}
-use Rattle.demands.specs.Alone.{Taken}
+use Rattle.demands.specs.Alone.{Taken, setting}
 use Rattle.demands.specs.Every.{Copies, keepsWord, wordTold, third}
 use Rattle.demands.specs.Words.{Words}
 use Rattle.demands.proofs.Bits.{bits}
@@ -155,8 +158,8 @@ module _ (h : Head) (b t : ℕ) (space : List ℕ) (k : Taken h space) (e : gath
 
   -- FAh clears the static bit, FEh releases
   cleared : asked .command ≡ 0 → asked .parameter ≡ 0xFA → judging h b t .verdict ≡ Obeyed → told h b t .targets .reached ≡ false
-  unfolding judgedOf deedOf commandOf shownBy toldOf restartsOf targetsBy clearedOf
-  cleared c p v = let is : judging h b t .deed ≡ ClearStatic = rw (v, c, p) in rw is
+  unfolding judgedOf deedOf commandOf shownBy toldOf restartsOf storedBy targetsBy clearedOf
+  cleared c p v = let is : judging h b t .deed ≡ ClearStatic = rw (v, c, p) in rw (is, turned-same (setting h modePlace) (clearedOf (h .targets)))
 
   released : asked .command ≡ 0 → asked .parameter ≡ 0xFE → judging h b t .verdict ≡ Obeyed → told h b t .measurement .frozen ≡ false
   unfolding judgedOf deedOf commandOf shownBy toldOf restartsOf measurementBy releasedOf

@@ -15,7 +15,7 @@ use Rattle.demands.specs.Run.{System, machineOf, runs}
 use Rattle.demands.specs.Demand2.{Demand2}
 use Rattle.demands.specs.Hits.{hits, lastHit, Hits, hear, noisy, noisier}
 use Rattle.demands.specs.Unseen.{keeping, Unseen}
-use Rattle.demands.specs.WrongHits.{zeroKept, othersMissed, castsMissed, firstKept, yesKept, KeptAtPower, muted, WrongHits}
+use Rattle.demands.specs.WrongHits.{zeroKept, othersMissed, castsMissed, firstKept, yesKept, KeptAtPower, muted, pair, WrongHits}
 use Rattle.demands.proofs.Computing.{computing}
 use Rattle.demands.proofs.Wrongs.{read20}
 
@@ -68,6 +68,21 @@ muted-fails : Unseen muted → ⊥
 unfolding computing
 muted-fails u = let e : heard.Replies 0 ≡ heard.Replies 1 = u .heard read20 1 0x3F 0 10 in let z : _≡_ {A = ℕ} 0 1 = cc in omega arith
 
+-- the bits that a call shows
+abbrev bitsOf : Hit → ℕ
+bitsOf (Bits n) = n
+bitsOf (Refused why) = 0
+
+nothing-shown-fails : (m : System) → m .onHead .hit (keeping (freshOf 31) 5) ≡ Bits 0 → Demand2 m → ⊥
+unfolding computing
+nothing-shown-fails m e d = let z : _≡_ {A = ℕ} 0 5 = ap bitsOf (sym e ∙ d .shows (keeping (freshOf 31) 5) refl) in omega arith
+
+first-shown-fails : (m : System) → m .onLine .hit pair 1 ≡ m .onHead .hit (freshOf 31) → Demand2 m → ⊥
+unfolding computing
+first-shown-fails m e d =
+    let named = d .line-shows pair 1 (record { fits = refl; places = refl }) (omega arith) ∙ d .shows (keeping (freshOf 12) 5) refl in
+    let z : _≡_ {A = ℕ} 5 0 = ap bitsOf (sym named ∙ e ∙ d .shows (freshOf 31) refl) in omega arith
+
 pub wrong-hits : WrongHits
 wrong-hits =
     record {
@@ -78,4 +93,6 @@ wrong-hits =
       yes-kept-fails = yes-kept-fails;
       kept-at-power-fails = kept-at-power-fails;
       muted-fails = muted-fails;
+      nothing-shown-fails = nothing-shown-fails;
+      first-shown-fails = first-shown-fails;
     }

@@ -150,7 +150,7 @@ module _ (m : System) where
   unfolding computing
   clears-error-fails e o d =
       let (told, kept) = o .drops failing 0xCC 0 space (failing-taken .0) (failing-taken .1) (failing-taken .2) refl (inl refl) in
-      let a = d .every .errs failing 0xCC 0 space (failing-taken .0) (failing-taken .1) (told .0) (told .1) (λ q. omega (arith, q)) in
+      let a = d .every .errs failing 0xCC 0 space (failing-taken .0) (failing-taken .1) (told .0) (told .1) (inl (λ q. omega (arith, q))) in
       let z : _≡_ {A = ℕ} 0 0x80 = rw (e failing 0xCC 0 10 refl) at (a .pending refl) in omega arith
 
   waits-mute-fails : WaitsMute m → OfferUnseen m → ⊥

@@ -10,7 +10,7 @@ use lib.ListN.{getD, replicate}
 use Rattle.state.specs.declared.parts.Head.{Head}
 use Rattle.state.specs.declared.parts.Ear.{Ear}
 use Rattle.effects.specs.Stored.{withLock, withOffer}
-use Rattle.effects.specs.Restart.{emptyEar, restartedOf, withStored}
+use Rattle.effects.specs.Restart.{emptyEar, restartedOf, withStored, freshOf}
 use Rattle.sheet.specs.declared.refusal.Refusal.the-variants.{OutOfRow}
 use Rattle.head.specs.declared.refusal.Refusal.{Refusal}
 use Rattle.head.specs.declared.refusal.Refusal.the-variants.{Sheet}
@@ -23,7 +23,7 @@ use Rattle.head.specs.Outcome as alone
 use Rattle.demands.specs.Run.{System}
 use Rattle.demands.specs.Demand1.{first, rowsAlone, ofAnswer, Demand1}
 use Rattle.demands.specs.Sheets.{Sheets}
-use Rattle.demands.specs.WrongSheets.{new, locked, Takes, Refuses, later, twice, longer, both, half, nine, five, Half, Loads, gathering, offered, overrun, lowFirst, fewRows, WrongSheets}
+use Rattle.demands.specs.WrongSheets.{new, locked, Takes, Refuses, later, twice, longer, both, half, nine, five, Half, Loads, gathering, offered, overrun, lowFirst, fewRows, pair, firstSaved, WrongSheets}
 use Rattle.demands.proofs.Computing.{computing}
 
 -- the number of a refusal, 0 for none
@@ -121,6 +121,15 @@ module _ (m : System) where
   unfolding computing
   few-rows-fails e o d = let z : _≡_ {A = ℕ} 38 39 = rw o at (d .saves new (replicate 274 1) refl e .rows) in omega arith
 
+  first-saved-fails : m .onHead .save new 274 ≡ Done → m .onHead .save (freshOf 12) 274 ≡ Done → firstSaved m → Sheets m → ⊥
+  unfolding computing
+  first-saved-fails e f o d =
+      let space = replicate {A = ℕ} 274 1 in
+      let named = d .line-saves pair 1 space (record { fits = refl; places = refl }) (omega arith) .1 in
+      let twelve : getD (m .onHead .sheet (freshOf 12) space) 121 0 ≡ 12 = d .saves (freshOf 12) space refl f .bodies 0 (omega arith) .3 in
+      let own : getD (m .onHead .sheet new space) 121 0 ≡ 31 = d .saves new space refl e .bodies 0 (omega arith) .3 in
+      let z : _≡_ {A = ℕ} 12 31 = sym twelve ∙ ap (λ (s : List ℕ). getD s 121 0) (sym named ∙ o) ∙ own in omega arith
+
 pub wrong-sheets : WrongSheets
 wrong-sheets =
     record {
@@ -142,4 +151,5 @@ wrong-sheets =
       overrun-fails = overrun-fails;
       low-first-fails = low-first-fails;
       few-rows-fails = few-rows-fails;
+      first-saved-fails = first-saved-fails;
     }

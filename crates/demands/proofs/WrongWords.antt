@@ -12,14 +12,14 @@ use Rattle.state.specs.Wellformed.{wellformedOf}
 use Rattle.head.specs.declared.calls.Heard.the-variants as heard
 use Rattle.head.specs.Hear.{gatheredOf}
 use Rattle.head.specs.Calls as head
-use Rattle.demands.specs.Cases.{split, heardAll}
+use Rattle.demands.specs.Cases.{heardTen, gathered}
 use Rattle.demands.specs.Every.{wordTold}
 use Rattle.demands.specs.WrongWords.{Wording, reworded, oldAlways, newAlways, newAt, oldAt, writes, reads, error, looking, Fails, WrongWords}
 use Rattle.demands.proofs.Computing.{computing}
-use Rattle.demands.proofs.Wrongs.{new, gathered, space}
+use Rattle.demands.proofs.Wrongs.{new, space}
 
 -- after the tenth byte a version tells one word, and the right one is another
-abbrev Told : Wording → Head → ℕ → ℕ → ℕ → Type 0
+abbrev pub Told : Wording → Head → ℕ → ℕ → ℕ → Type 0
 Told f h b wrong right =
     (wellformedOf h ≡ true)
     × (gatheredOf (h .ear) b 0 .whole ≡ true)
@@ -27,35 +27,32 @@ Told f h b wrong right =
     × (fieldsOf (take 10 (reworded f h b 0 space)) .word ≡ wrong)
     × (wordTold (fieldsOf (gatheredOf (h .ear) b 0 .ten)) (fieldsOf (take 10 (reworded f h b 0 space))) h (head.byteOf h b 0 10 .head) ≡ right)
 
-fails : (f : Wording) (h : Head) (b wrong right : ℕ) → wrong ≢ right → Told f h b wrong right → Fails f
+pub fails : (f : Wording) (h : Head) (b wrong right : ℕ) → wrong ≢ right → Told f h b wrong right → Fails f
 fails f h b wrong right differ (well, ends, replies, wrong-is, right-is) m s d =
     let c = d .every .copies h b 0 space (record { well = well; room = omega arith }) ends (rw (s .hears h b 0 10) replies) .word in
     differ (sym wrong-is ∙ rw (s .lays h b 0 space replies, s .hears h b 0 10) at c ∙ right-is)
 
 -- ---- the heads: after a telegram, and with nine bytes of the next
-abbrev after : ℕ → Head → Head
-after ten h = heardAll (split 10 ten) 0 h
-
 -- set point 2 is 0 and valid: it is reached, and the static bit is set
 abbrev reached : Head
-reached = after 0x011FFF020000000000E3 new
+reached = heardTen 0x011FFF020000000000E3 new
 
 -- two damaged telegrams were heard; a value is kept
 abbrev twice : Head
-twice = after 0x001F200000000000003E (after 0x001F200000000000003E new)
+twice = heardTen 0x001F200000000000003E (heardTen 0x001F200000000000003E new)
 
 abbrev frozen : Head
-frozen = after 0x0200AA000000000001A9 new
+frozen = heardTen 0x0200AA000000000001A9 new
 
 -- set point 2 is 100 and valid; and 1Fh, or the window of 20h, is 100
 abbrev far : Head
-far = after 0x011FFF02000000006487 new
+far = heardTen 0x011FFF02000000006487 new
 
 abbrev aligned : Head
-aligned = after 0x011F1F00000000006465 far
+aligned = heardTen 0x011F1F00000000006465 far
 
 abbrev wide : Head
-wide = after 0x011F200000000000645A far
+wide = heardTen 0x011F200000000000645A far
 
 pub wrong-words : WrongWords
 unfolding computing

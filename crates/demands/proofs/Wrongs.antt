@@ -17,7 +17,7 @@ use Rattle.state.specs.declared.parts.Monitor.{Monitor}
 use Rattle.state.specs.Errors.{emptyList, rememberedOf}
 use Rattle.effects.specs.Restart.{freshOf}
 use Rattle.reply.specs.Reply.{replyOf}
-use Rattle.head.specs.Hear.{gatheredOf, standingOf, toldOf, withEar}
+use Rattle.head.specs.Hear.{gatheredOf, standingOf, toldOf}
 use Rattle.head.specs.Calls.{factoryOf, byteOf, byteSpaceOf}
 use Rattle.head.specs.declared.refusal.Refusal.{Refusal}
 use Rattle.head.specs.declared.calls.Heard.the-variants as heard
@@ -25,7 +25,7 @@ use Rattle.head.specs.declared.calls.Fed.{Fed}
 use Rattle.line.specs.declared.calls.Line.{Line}
 use Rattle.line.specs.Calls as line
 use Rattle.demands.specs.Calls.{measure, keys}
-use Rattle.demands.specs.Cases.{split}
+use Rattle.demands.specs.Cases.{split, gathered}
 use Rattle.demands.specs.Run.{OnLine, System, product}
 use Rattle.demands.specs.Lines.{Fits, Only}
 use Rattle.demands.specs.Demand1.{Demand1}
@@ -56,9 +56,6 @@ watched =
     let s = new .stored in
     like (record { values = set (s .values) 2 1; number = s .number; baud = s .baud; offer = s .offer; unlocked = s .unlocked }) (new .faults)
     (record { running = true; since = 0 }) 0
-
-abbrev pub gathered : Head → ℕ → Head
-gathered h nine = withEar h (record { bytes = split 9 nine ++ (0 ∷ []); count = 9; at = 0 })
 
 abbrev pub space : List ℕ
 space = replicate 10 0

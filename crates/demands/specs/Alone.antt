@@ -1,4 +1,4 @@
--- What power, a tick, a measurement and a key state do to a head alone, in the sentences of document 01 and of document 02, request (ii): h is the head
+-- What power, a tick, a measurement and a key state do to a head alone, in the sentences of document 01 and of document 02, requests (ii) and (ix): h is the head
 -- before the call, k the head after it. Each part of a head has its sentence, that it is as it was among them.
 -- Assumes nothing.
 use Prim.Native.Nat.{ℕ, _*_, _/_, _%_, _≤_}
@@ -14,16 +14,37 @@ use Rattle.wire.specs.Check.{hitOf}
 use Rattle.wire.specs.Telegram.{fieldsOf}
 use Rattle.state.specs.declared.parts.Head.{Head}
 use Rattle.state.specs.declared.parts.ErrorList.{ErrorList}
-use Rattle.state.specs.Settings.{valueAt, nodePlace, baudPlace, timeoutPlace, calibrationKeyPlace, calibrationPlace, incrementalKeyPlace}
+use Rattle.state.specs.Settings.{valueAt}
 use Rattle.state.specs.Bits.{bitSet}
 use Rattle.state.specs.Errors.{rememberedOf}
 use Rattle.state.specs.Status.{statusOf}
 use Rattle.state.specs.Wellformed.{wellformedOf}
 use Rattle.demands.specs.Past.{since, delivered}
 
--- the value of a parameter, by its place
+-- the value of a parameter, by its place, which is named by its number, so that no sentence goes by where a definition finds it: 00h to 03h stand at 0 to 3, 05h at 5,
+-- 0Eh at 14, 1Bh at 16, 1Fh at 19, 20h at 20, 28h at 23, 31h at 25, 35h at 29, 3Eh at 35. (That it is so: `keeps` of `ByAddress`, in the crate exchange, by a list of
+-- the 39 addresses.)
 abbrev pub setting : Head → ℕ → ℕ
 setting h i = valueAt (h .stored .values) i
+
+-- document 02, request (ix): 28h, at place 23, is 3, which is alpha-numeric display; whether it is so before a call just where it is so after it
+abbrev pub displays : Head → Bool
+displays h = eqb (setting h 23) 3
+
+abbrev pub stays : Head → Head → Bool
+stays h k = cond (displays h) (displays k) (not (displays k))
+
+-- entering or leaving makes both set points invalid and unacknowledged and clears the static bit; the values of the set points and the taken control word
+-- survive it
+pub record Turned (h k : Head) : Type 0 where
+  pub first : k .targets .first ≡ h .targets .first
+  pub valid1 : k .targets .valid1 ≡ (stays h k && h .targets .valid1)
+  pub second : k .targets .second ≡ h .targets .second
+  pub valid2 : k .targets .valid2 ≡ (stays h k && h .targets .valid2)
+  pub word : k .targets .word ≡ h .targets .word
+  pub reached : k .targets .reached ≡ (stays h k && h .targets .reached)
+  pub acknowledged1 : k .targets .acknowledged1 ≡ (stays h k && h .targets .acknowledged1)
+  pub acknowledged2 : k .targets .acknowledged2 ≡ (stays h k && h .targets .acknowledged2)
 
 -- the codes in an error list, the oldest first; one more, where a full list drops its oldest
 abbrev pub entries : ErrorList → List ℕ
@@ -47,17 +68,19 @@ pub record Restarted (h k : Head) : Type 0 where
   pub adopted : k .measurement .adopted ≡ h .measurement .adopted
   pub m : k .measurement .m ≡ h .measurement .m
   -- takes 00h and 01h into force
-  pub number : k .stored .number ≡ setting h nodePlace
-  pub baud : k .stored .baud ≡ setting h baudPlace
+  pub number : k .stored .number ≡ setting h 0
+  pub baud : k .stored .baud ≡ setting h 1
   -- drops an offer (document 02, request (ii))
   pub offer : k .stored .offer ≡ 0
-  -- clears everything else: set points 0 and invalid, taken control word 0, static bit
+  -- clears everything else: set points 0, invalid and unacknowledged, taken control word 0, static bit
   pub first : k .targets .first ≡ 0
   pub valid1 : k .targets .valid1 ≡ false
   pub second : k .targets .second ≡ 0
   pub valid2 : k .targets .valid2 ≡ false
   pub word : k .targets .word ≡ 0
   pub reached : k .targets .reached ≡ false
+  pub acknowledged1 : k .targets .acknowledged1 ≡ false
+  pub acknowledged2 : k .targets .acknowledged2 ≡ false
   -- pending error, the last non-zero exclusive-or (document 02, request (i)), counts, input list, keys
   pub pending : k .faults .pending ≡ 0
   pub hit : k .faults .hit ≡ 0
@@ -75,7 +98,7 @@ pub record Restarted (h k : Head) : Type 0 where
 
 -- ---- a tick: the monitor runs, 02h is above 0, and at least 100 times 02h ms have gone by
 abbrev pub overdue : Head → ℕ → Bool
-overdue h t = h .monitor .running && (ltb 0 (setting h timeoutPlace) && leb (100 * setting h timeoutPlace) (since t (h .monitor .since)))
+overdue h t = h .monitor .running && (ltb 0 (setting h 2) && leb (100 * setting h 2) (since t (h .monitor .since)))
 
 pub record Ticked (h k : Head) (t : ℕ) : Type 0 where
   -- then it raises 0081h, which becomes the pending error and enters the error memory, and stops the monitor; else it does nothing
@@ -98,8 +121,8 @@ bit5 h = bitSet (statusOf h) 5
 
 pub record Measured (h k : Head) (x : ℤ) : Type 0 where
   pub m : k .measurement .m ≡ x
-  -- the static bit is set where bit 5 holds after it
-  pub reached : k .targets .reached ≡ (h .targets .reached || bit5 k)
+  -- the static bit is set where bit 5 holds after it, and never in alpha-numeric display
+  pub reached : k .targets .reached ≡ (h .targets .reached || (not (displays k) && bit5 k))
   pub zero : k .measurement .zero ≡ h .measurement .zero
   pub adopted : k .measurement .adopted ≡ h .measurement .adopted
   pub incremental : k .measurement .incremental ≡ h .measurement .incremental
@@ -111,6 +134,8 @@ pub record Measured (h k : Head) (x : ℤ) : Type 0 where
   pub second : k .targets .second ≡ h .targets .second
   pub valid2 : k .targets .valid2 ≡ h .targets .valid2
   pub word : k .targets .word ≡ h .targets .word
+  pub acknowledged1 : k .targets .acknowledged1 ≡ h .targets .acknowledged1
+  pub acknowledged2 : k .targets .acknowledged2 ≡ h .targets .acknowledged2
   pub stored : k .stored ≡ h .stored
   pub faults : k .faults ≡ h .faults
   pub monitor : k .monitor ≡ h .monitor
@@ -121,9 +146,23 @@ pub record Measured (h k : Head) (x : ℤ) : Type 0 where
 abbrev pub newly : ℕ → Head → ℕ → Bool
 newly weight h state = eqb (state / weight % 2) 1 && eqb (h .keys / weight % 2) 0
 
--- left newly pressed acknowledges a pending error, else calibrates if 05h is 1
+-- in alpha-numeric display a valid set point lacks its acknowledgement
+abbrev pub lacks : Head → Bool
+lacks h = displays h && ((h .targets .valid1 && not (h .targets .acknowledged1)) || (h .targets .valid2 && not (h .targets .acknowledged2)))
+
+-- left newly pressed acknowledges a pending error; else, where a valid set point lacks it, all valid ones; else it calibrates if 05h is 1
+abbrev pub leftGives : Head → ℕ → Bool
+leftGives h state = newly 1 h state && (eqb (h .faults .pending) 0 && lacks h)
+
 abbrev pub calibrates : Head → ℕ → Bool
-calibrates h state = newly 1 h state && (eqb (h .faults .pending) 0 && eqb (setting h calibrationKeyPlace) 1)
+calibrates h state = newly 1 h state && (eqb (h .faults .pending) 0 && (not (lacks h) && eqb (setting h 5) 1))
+
+-- star newly pressed acknowledges all valid ones too, in alpha-numeric display with 3Eh, at place 35, 2, whatever the error
+abbrev pub starGives : Head → ℕ → Bool
+starGives h state = newly 2 h state && (displays h && eqb (setting h 35) 2)
+
+abbrev pub keyGives : Head → ℕ → Bool
+keyGives h state = leftGives h state || starGives h state
 
 -- up newly pressed adopts the number that is offered, if one is
 abbrev pub adopts : Head → ℕ → Bool
@@ -131,7 +170,7 @@ adopts h state = newly 4 h state && not (eqb (h .stored .offer) 0)
 
 -- else it switches incremental if 35h is 1
 abbrev pub switches : Head → ℕ → Bool
-switches h state = newly 4 h state && eqb (setting h incrementalKeyPlace) 1
+switches h state = newly 4 h state && eqb (setting h 29) 1
 
 -- a key state that adopts no number
 pub record Keyed (h k : Head) (state : ℕ) : Type 0 where
@@ -139,7 +178,7 @@ pub record Keyed (h k : Head) (state : ℕ) : Type 0 where
   pub pending : k .faults .pending ≡ cond (newly 1 h state) 0 (h .faults .pending)
   -- calibration makes m the zero and adopts 1Fh
   pub zero : k .measurement .zero ≡ cond (calibrates h state) (h .measurement .m) (h .measurement .zero)
-  pub adopted : k .measurement .adopted ≡ cond (calibrates h state) (setting h calibrationPlace) (h .measurement .adopted)
+  pub adopted : k .measurement .adopted ≡ cond (calibrates h state) (setting h 19) (h .measurement .adopted)
   -- incremental measurement starts from the m at switching on
   pub incremental : k .measurement .incremental ≡ cond (switches h state) (not (h .measurement .incremental)) (h .measurement .incremental)
   pub start : k .measurement .start ≡ cond (switches h state) (cond (h .measurement .incremental) (pos 0) (h .measurement .m)) (h .measurement .start)
@@ -151,17 +190,25 @@ pub record Keyed (h k : Head) (state : ℕ) : Type 0 where
   pub hit : k .faults .hit ≡ h .faults .hit
   pub damaged : k .faults .damaged ≡ h .faults .damaged
   pub stored : k .stored ≡ h .stored
-  pub targets : k .targets ≡ h .targets
+  -- only the acknowledgements of valid set points are given
+  pub acknowledged1 : k .targets .acknowledged1 ≡ (h .targets .acknowledged1 || (keyGives h state && h .targets .valid1))
+  pub acknowledged2 : k .targets .acknowledged2 ≡ (h .targets .acknowledged2 || (keyGives h state && h .targets .valid2))
+  pub first : k .targets .first ≡ h .targets .first
+  pub valid1 : k .targets .valid1 ≡ h .targets .valid1
+  pub second : k .targets .second ≡ h .targets .second
+  pub valid2 : k .targets .valid2 ≡ h .targets .valid2
+  pub word : k .targets .word ≡ h .targets .word
+  pub reached : k .targets .reached ≡ h .targets .reached
   pub monitor : k .monitor ≡ h .monitor
   pub ear : k .ear ≡ h .ear
 
 -- one that does: the head j stands as left has made it, which is taken before up, with the number in 00h, whatever the interlock; it restarts last
 pub record Adopting (h j : Head) (state : ℕ) : Type 0 where
-  pub node : setting j nodePlace ≡ h .stored .offer
-  pub values : (r : ℕ) → r ≢ nodePlace → setting j r ≡ setting h r
+  pub node : setting j 0 ≡ h .stored .offer
+  pub values : (r : ℕ) → r ≢ 0 → setting j r ≡ setting h r
   pub unlocked : j .stored .unlocked ≡ h .stored .unlocked
   pub zero : j .measurement .zero ≡ cond (calibrates h state) (h .measurement .m) (h .measurement .zero)
-  pub adopted : j .measurement .adopted ≡ cond (calibrates h state) (setting h calibrationPlace) (h .measurement .adopted)
+  pub adopted : j .measurement .adopted ≡ cond (calibrates h state) (setting h 19) (h .measurement .adopted)
   pub m : j .measurement .m ≡ h .measurement .m
   pub memory : j .faults .memory ≡ h .faults .memory
 

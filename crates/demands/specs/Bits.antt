@@ -1,4 +1,4 @@
--- The status word, bit by bit (document 01, "Position and status"), of every head.
+-- The status word, bit by bit (document 01, "Position and status"; alpha-numeric display: document 02, request (ix)), of every head.
 -- Assumes nothing.
 use Prim.Native.Nat.{ℕ, _<_}
 use mathlib.Core.Path.{_≡_}
@@ -8,11 +8,10 @@ use lib.IntN.{ℤ}
 use lib.Signed.{ltZ}
 use Rattle.signed.specs.Number.{numberOf, distanceOf}
 use Rattle.state.specs.declared.parts.Head.{Head}
-use Rattle.state.specs.Settings.{directionPlace, window1Place, window2Place}
 use Rattle.state.specs.Bits.{bitSet}
 use Rattle.state.specs.Position.{viewOf}
 use Rattle.state.specs.Status.{statusOf}
-use Rattle.demands.specs.Alone.{setting}
+use Rattle.demands.specs.Alone.{setting, displays}
 
 -- A, and S, set point 2
 abbrev pub actual : Head → ℤ
@@ -27,19 +26,22 @@ near h place = leb (distanceOf (actual h) (aimed h)) (setting h place)
 
 -- A below S with 1Bh 0, or A above S with 1Bh 1
 abbrev pub onward : Head → Bool
-onward h = cond (eqb (setting h directionPlace) 1) (ltZ (aimed h) (actual h)) (ltZ (actual h) (aimed h))
+onward h = cond (eqb (setting h 16) 1) (ltZ (aimed h) (actual h)) (ltZ (actual h) (aimed h))
 
 pub record Bits (h : Head) : Type 0 where
-  pub bit0 : bitSet (statusOf h) 0 ≡ (h .targets .valid2 && (not (near h window1Place) && onward h))
-  pub bit1 : bitSet (statusOf h) 1 ≡ (h .targets .valid2 && (not (near h window1Place) && not (onward h)))
+  -- in alpha-numeric display 0, 1, 4 and 6 are 0
+  pub bit0 : bitSet (statusOf h) 0 ≡ (not (displays h) && (h .targets .valid2 && (not (near h 20) && onward h)))
+  pub bit1 : bitSet (statusOf h) 1 ≡ (not (displays h) && (h .targets .valid2 && (not (near h 20) && not (onward h))))
   pub bit2 : bitSet (statusOf h) 2 ≡ h .targets .valid1
-  pub bit3 : bitSet (statusOf h) 3 ≡ (h .targets .valid2 && near h window2Place)
-  pub bit4 : bitSet (statusOf h) 4 ≡ h .targets .reached
-  pub bit5 : bitSet (statusOf h) 5 ≡ (h .targets .valid2 && near h window1Place)
-  pub bit6 : bitSet (statusOf h) 6 ≡ (h .targets .valid2 && ltZ (aimed h) (actual h))
+  -- there 3 and 5 are the acknowledgements of set points 1 and 2, and do not wait for bit 10
+  pub bit3 : bitSet (statusOf h) 3 ≡ cond (displays h) (h .targets .acknowledged1) (h .targets .valid2 && near h 25)
+  pub bit4 : bitSet (statusOf h) 4 ≡ (not (displays h) && h .targets .reached)
+  pub bit5 : bitSet (statusOf h) 5 ≡ cond (displays h) (h .targets .acknowledged2) (h .targets .valid2 && near h 20)
+  pub bit6 : bitSet (statusOf h) 6 ≡ (not (displays h) && (h .targets .valid2 && ltZ (aimed h) (actual h)))
   pub bit7 : bitSet (statusOf h) 7 ≡ not (eqb (h .faults .pending) 0)
   pub bit8 : bitSet (statusOf h) 8 ≡ h .measurement .frozen
-  pub bit9 : bitSet (statusOf h) 9 ≡ h .measurement .incremental
+  -- and 9 is bit 7 of the last taken control word: the set points are characters, and not numbers
+  pub bit9 : bitSet (statusOf h) 9 ≡ cond (displays h) (bitSet (h .targets .word) 7) (h .measurement .incremental)
   pub bit10 : bitSet (statusOf h) 10 ≡ h .targets .valid2
   -- all else 0
   pub bit11 : bitSet (statusOf h) 11 ≡ false

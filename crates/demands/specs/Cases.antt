@@ -11,7 +11,7 @@ use Rattle.signed.specs.Rounding.{roundedOf}
 use Rattle.signed.specs.Difference.{differentialOf}
 use Rattle.state.specs.declared.parts.Head.{Head}
 use Rattle.effects.specs.Restart.{freshOf}
-use Rattle.head.specs.Hear.{stepOf}
+use Rattle.head.specs.Hear.{withEar, stepOf}
 use Rattle.line.specs.Round.{saidBy}
 
 -- the n bytes of a number, high byte first
@@ -39,6 +39,13 @@ heardAll (b ∷ bs) t h = heardAll bs t (stepOf h b t .head)
 abbrev pub saidAll : List ℕ → ℕ → Head → List (List ℕ)
 saidAll [] t h = []
 saidAll (b ∷ bs) t h = saidBy (stepOf h b t) ++ saidAll bs t (stepOf h b t .head)
+
+-- ten bytes, written as one number, heard at time 0; and nine that stand gathered
+abbrev pub heardTen : ℕ → Head → Head
+heardTen ten h = heardAll (split 10 ten) 0 h
+
+abbrev pub gathered : Head → ℕ → Head
+gathered h nine = withEar h (record { bytes = split 9 nine ++ (0 ∷ []); count = 9; at = 0 })
 
 -- the replies of a head to what is put to it
 abbrev pub repliesOf : List Feed → Head → List (List ℕ)

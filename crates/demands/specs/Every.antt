@@ -4,7 +4,7 @@
 use Prim.Native.Nat.{ℕ, _+_, _<_, _≤_}
 use mathlib.Core.Path.{_≡_}
 use mathlib.Core.Bool.{Bool, true, false, cond, not, _&&_, _||_}
-use mathlib.Core.Logic.{_≢_}
+use mathlib.Core.Logic.{_≢_, _⊎_}
 use mathlib.Core.List.{List}
 use lib.Dec.{ltb, eqb}
 use lib.ListN.{length, take}
@@ -25,13 +25,12 @@ use Rattle.judge.specs.Judged.{judgedOf}
 use Rattle.state.specs.declared.parts.Head.{Head}
 use Rattle.state.specs.Errors.{rememberedOf}
 use Rattle.state.specs.Position.{viewOf}
-use Rattle.state.specs.Settings.{responsePlace}
 use Rattle.state.specs.Status.{statusOf, differenceOf}
 use Rattle.head.specs.declared.calls.Heard.the-variants as heard
 use Rattle.head.specs.Hear.{standingOf, gatheredOf}
-use Rattle.demands.specs.Past.{accepted}
+use Rattle.demands.specs.Past.{accepted, gives, look}
 use Rattle.demands.specs.Run.{System}
-use Rattle.demands.specs.Alone.{Taken, setting}
+use Rattle.demands.specs.Alone.{Taken, setting, Turned}
 use Rattle.demands.specs.Acts.{actOf, Acted}
 
 -- the reply x to the telegram t copies command and node, and has this status word in the control word's place
@@ -51,8 +50,8 @@ keepsWord t =
 abbrev pub wordTold : Telegram → Telegram → Head → Head → ℕ
 wordTold t x before after = cond (eqb (x .parameter) (t .parameter) && keepsWord t) (statusOf before) (statusOf after)
 
--- a head that was polled by a read of p, the exclusive-or of whose ten bytes is x: what is stored, the set points with their validity and the taken control
--- word, the measurement and the keys are as they were, but that FAh may clear the static bit and FEh release the frozen value; and so are the errors, but
+-- a head that was polled by a read of p, the exclusive-or of whose ten bytes is x: what is stored, the set points with their validity and acknowledgement, the taken
+-- control word, the measurement and the keys are as they were, but that FAh may clear the static bit and FEh release the frozen value; and so are the errors, but
 -- for the input list, where it is sound
 pub record Polled (h k : Head) (p x : ℕ) : Type 0 where
   pub stored : k .stored ≡ h .stored
@@ -61,6 +60,8 @@ pub record Polled (h k : Head) (p x : ℕ) : Type 0 where
   pub second : k .targets .second ≡ h .targets .second
   pub valid2 : k .targets .valid2 ≡ h .targets .valid2
   pub word : k .targets .word ≡ h .targets .word
+  pub acknowledged1 : k .targets .acknowledged1 ≡ h .targets .acknowledged1
+  pub acknowledged2 : k .targets .acknowledged2 ≡ h .targets .acknowledged2
   pub m : k .measurement .m ≡ h .measurement .m
   pub zero : k .measurement .zero ≡ h .measurement .zero
   pub adopted : k .measurement .adopted ≡ h .measurement .adopted
@@ -156,11 +157,12 @@ pub record Every (m : System) : Type 0 where
   pub polls : (h : Head) (b t : ℕ) (space : List ℕ) → Taken h space → gatheredOf (h .ear) b t .whole ≡ true
       → let ten = gatheredOf (h .ear) b t .ten in
       fieldsOf ten .command ≡ 0 → Polled h (m .onHead .byte h b t (length space) .head) (fieldsOf ten .parameter) (hitOf ten)
-  -- a write of a stored parameter, of 1Fh too, leaves the zero, the adopted value and all else of the measurement, and the set points
+  -- a write of a stored parameter, of 1Fh too, leaves the zero, the adopted value and all else of the measurement; and the set points, but that it may enter or
+  -- leave alpha-numeric display
   pub sets : (h : Head) (b t : ℕ) (space : List ℕ) → Taken h space → gatheredOf (h .ear) b t .whole ≡ true
       → fieldsOf (gatheredOf (h .ear) b t .ten) .command ≡ 1
       → (r : ℕ) → r < 39 → fieldsOf (gatheredOf (h .ear) b t .ten) .parameter ≡ address (rowOf r)
-      → let k = m .onHead .byte h b t (length space) .head in (k .measurement ≡ h .measurement) × (k .targets ≡ h .targets)
+      → let k = m .onHead .byte h b t (length space) .head in (k .measurement ≡ h .measurement) × Turned h k
   -- a sound telegram starts the monitor, also one for another head
   pub starts : (h : Head) (b t : ℕ) (space : List ℕ) → Taken h space → gatheredOf (h .ear) b t .whole ≡ true
       → hitOf (gatheredOf (h .ear) b t .ten) ≡ 0 → judgedOf (gatheredOf (h .ear) b t .ten) (standingOf h) .deed ≢ Restart
@@ -185,12 +187,13 @@ pub record Every (m : System) : Type 0 where
   pub complains : (h : Head) (b t : ℕ) (space : List ℕ) → Taken h space → gatheredOf (h .ear) b t .whole ≡ true
       → (f : Fault) → judgedOf (gatheredOf (h .ear) b t .ten) (standingOf h) .verdict ≡ Refused f
       → m .onHead .byte h b t (length space) .head .faults .inputs ≡ rememberedOf (h .faults .inputs) (codeOf f)
-  -- whatever is judged: a reply with FDh in the parameter's place, where FDh was not asked for, is an error's; it enters the input list with the code that
-  -- it tells, and the telegram changes only what document 01 lists
+  -- whatever is judged: a reply with FDh in the parameter's place, but for a sound read of FDh, is an error's; it enters the input list with the code that it
+  -- tells, and the telegram changes only what document 01 lists
   pub errs : (h : Head) (b t : ℕ) (space : List ℕ) → Taken h space → gatheredOf (h .ear) b t .whole ≡ true
       → let ten = gatheredOf (h .ear) b t .ten in
       let x = fieldsOf (take 10 (m .onHead .space h b t space)) in
-      m .onHead .byte h b t (length space) .heard ≡ heard.Replies 1 → x .parameter ≡ 0xFD → fieldsOf ten .parameter ≢ 0xFD
+      m .onHead .byte h b t (length space) .heard ≡ heard.Replies 1 → x .parameter ≡ 0xFD
+      → (fieldsOf ten .parameter ≢ 0xFD) ⊎ ((fieldsOf ten .command ≢ 0) ⊎ (hitOf ten ≢ 0))
       → Complained h (m .onHead .byte h b t (length space) .head) (hitOf ten) (x .value)
   -- a sound telegram for another head is met with silence, and does nothing
   pub passes : (h : Head) (b t : ℕ) (space : List ℕ) → Taken h space → gatheredOf (h .ear) b t .whole ≡ true
@@ -211,13 +214,20 @@ pub record Every (m : System) : Type 0 where
       → fieldsOf (gatheredOf (h .ear) b t .ten) .command ≡ 2
       → (m .onHead .byte h b t (length space) .heard ≡ heard.Replies 0) × (m .onHead .space h b t space ≡ space)
   -- a sound read, at the number in force, of a parameter that may be read is answered, with that parameter, whatever its control word and its data; of 96h where
-  -- its number is not above the count
+  -- its number is not above the count. It enters nothing in the input list
   pub read : (h : Head) (b t : ℕ) (space : List ℕ) → Taken h space → gatheredOf (h .ear) b t .whole ≡ true
       → let ten = gatheredOf (h .ear) b t .ten in
       hitOf ten ≡ 0 → fieldsOf ten .command ≡ 0 → fieldsOf ten .node ≡ h .stored .number → readable (accessOf (fieldsOf ten .parameter)) ≡ true
       → (fieldsOf ten .parameter ≡ 0x96 → byte0 (fieldsOf ten .value) ≤ h .faults .inputs .count)
       → (m .onHead .byte h b t (length space) .heard ≡ heard.Replies 1)
       × (fieldsOf (take 10 (m .onHead .space h b t space)) .parameter ≡ fieldsOf ten .parameter)
+      × (m .onHead .byte h b t (length space) .head .faults .inputs ≡ h .faults .inputs)
+  -- a sound telegram at the number in force whose command is above 02h is 00 84, whatever its parameter
+  pub above : (h : Head) (b t : ℕ) (space : List ℕ) → Taken h space → gatheredOf (h .ear) b t .whole ≡ true
+      → let ten = gatheredOf (h .ear) b t .ten in
+      let x = fieldsOf (take 10 (m .onHead .space h b t space)) in
+      hitOf ten ≡ 0 → 2 < fieldsOf ten .command → fieldsOf ten .node ≡ h .stored .number
+      → (m .onHead .byte h b t (length space) .heard ≡ heard.Replies 1) × (x .parameter ≡ 0xFD) × (x .value ≡ 0x0084)
   -- a write that is accepted, by the account's own tests, is answered, but for D2h; with the value written, but for FFh
   pub written : (h : Head) (b t : ℕ) (space : List ℕ) → Taken h space → gatheredOf (h .ear) b t .whole ≡ true
       → let ten = gatheredOf (h .ear) b t .ten in
@@ -230,12 +240,25 @@ pub record Every (m : System) : Type 0 where
   pub aimed : (h : Head) (b t : ℕ) (space : List ℕ) → Taken h space → gatheredOf (h .ear) b t .whole ≡ true
       → let ten = gatheredOf (h .ear) b t .ten in
       accepted (h .stored .number) (locked h) ten ≡ true → fieldsOf ten .command ≡ 1 → fieldsOf ten .parameter ≡ 0xFF → fieldsOf ten .value < 4294967296
-      → fieldsOf (take 10 (m .onHead .space h b t space)) .value ≡ aimAnswer (setting h responsePlace) (m .onHead .byte h b t (length space) .head)
+      → fieldsOf (take 10 (m .onHead .space h b t space)) .value ≡ aimAnswer (setting h 3) (m .onHead .byte h b t (length space) .head)
   -- an accepted write or broadcast, but for A0h 9, does what its address says, and leaves all else that is not stored
   pub acts : (h : Head) (b t : ℕ) (space : List ℕ) → Taken h space → gatheredOf (h .ear) b t .whole ≡ true
       → let asked = fieldsOf (gatheredOf (h .ear) b t .ten) in
       accepted (h .stored .number) (locked h) (gatheredOf (h .ear) b t .ten) ≡ true → (eqb (asked .parameter) 0xA0 && eqb (asked .value) 9) ≡ false
       → Acted h (m .onHead .byte h b t (length space) .head) (actOf (asked .parameter) (asked .value)) (asked .value) (asked .word)
+  -- and stores what the account has of it, also in a head that was handed in
+  pub stores : (h : Head) (b t : ℕ) (space : List ℕ) → Taken h space → gatheredOf (h .ear) b t .whole ≡ true
+      → let asked = fieldsOf (gatheredOf (h .ear) b t .ten) in
+      accepted (h .stored .number) (locked h) (gatheredOf (h .ear) b t .ten) ≡ true → length (h .stored .values) ≡ 39
+      → (r : ℕ) → r < 39 → setting (m .onHead .byte h b t (length space) .head) r ≡ look (gives (asked .parameter) (asked .value) r) (setting h r)
+  -- A8h opens the interlock with 1 and closes it with 0, and no other touches it
+  pub locks : (h : Head) (b t : ℕ) (space : List ℕ) → Taken h space → gatheredOf (h .ear) b t .whole ≡ true
+      → let asked = fieldsOf (gatheredOf (h .ear) b t .ten) in
+      accepted (h .stored .number) (locked h) (gatheredOf (h .ear) b t .ten) ≡ true → length (h .stored .values) ≡ 39
+      → m .onHead .byte h b t (length space) .head .stored .unlocked ≡ cond (eqb (asked .parameter) 0xA8) (eqb (asked .value) 1) (h .stored .unlocked)
+  -- after a telegram, whichever it is, none is gathered
+  pub ends : (h : Head) (b t : ℕ) (space : List ℕ) → Taken h space → gatheredOf (h .ear) b t .whole ≡ true
+      → m .onHead .byte h b t (length space) .head .ear .count ≡ 0
   -- only a restart takes 00h and 01h into force: no write of them, and no reset
   pub in-force : (h : Head) (b t : ℕ) (space : List ℕ) → Taken h space → gatheredOf (h .ear) b t .whole ≡ true
       → judgedOf (gatheredOf (h .ear) b t .ten) (standingOf h) .deed ≢ Restart

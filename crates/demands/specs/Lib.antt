@@ -15,10 +15,12 @@ pub mod Hits
 pub mod AutoId
 pub mod Unseen
 pub mod Sheets
+pub mod Display
 pub mod WrongHits
 pub mod WrongOffers
 pub mod WrongWords
 pub mod WrongSheets
+pub mod WrongDisplay
 pub mod Ordered
 pub mod Proposed
 pub mod Wrong

@@ -29,6 +29,7 @@ use Rattle.judge.proofs.judged as judge-judged
 use Rattle.judge.proofs.verdict as judge-verdict
 use Rattle.state.proofs.errors as state-errors
 use Rattle.state.proofs.position as state-position
+use Rattle.state.proofs.mode as state-mode
 use Rattle.state.proofs.status as state-status
 use Rattle.state.proofs.wellformed as state-wellformed
 use Rattle.effects.proofs.aim as effects-aim
@@ -113,6 +114,7 @@ pub record Outcomes : Type 0 where
   pub state-errors-empty-list : One state-errors.empty_list.Kinds.ps state-errors.empty_list.Kinds.r state-errors.empty_list.Reads.Post
   pub state-errors-remembered : One state-errors.remembered.Kinds.ps state-errors.remembered.Kinds.r state-errors.remembered.Reads.Post
   pub state-errors-entry : One state-errors.entry.Kinds.ps state-errors.entry.Kinds.r state-errors.entry.Reads.Post
+  pub state-mode-is-display : One state-mode.is_display.Kinds.ps state-mode.is_display.Kinds.r state-mode.is_display.Reads.Post
   pub state-position-position : One state-position.position.Kinds.ps state-position.position.Kinds.r state-position.position.Reads.Post
   pub state-position-view : One state-position.view.Kinds.ps state-position.view.Kinds.r state-position.view.Reads.Post
   pub state-status-aim : One state-status.aim.Kinds.ps state-status.aim.Kinds.r state-status.aim.Reads.Post
@@ -123,6 +125,9 @@ pub record Outcomes : Type 0 where
   pub state-wellformed-wellformed : One state-wellformed.wellformed.Kinds.ps state-wellformed.wellformed.Kinds.r state-wellformed.wellformed.Reads.Post
   pub effects-aim-no-targets : One effects-aim.no_targets.Kinds.ps effects-aim.no_targets.Kinds.r effects-aim.no_targets.Reads.Post
   pub effects-aim-settled : One effects-aim.settled.Kinds.ps effects-aim.settled.Kinds.r effects-aim.settled.Reads.Post
+  pub effects-aim-lacking : One effects-aim.lacking.Kinds.ps effects-aim.lacking.Kinds.r effects-aim.lacking.Reads.Post
+  pub effects-aim-all-given : One effects-aim.all_given.Kinds.ps effects-aim.all_given.Kinds.r effects-aim.all_given.Reads.Post
+  pub effects-aim-turned : One effects-aim.turned.Kinds.ps effects-aim.turned.Kinds.r effects-aim.turned.Reads.Post
   pub effects-aim-targets-by : One effects-aim.targets_by.Kinds.ps effects-aim.targets_by.Kinds.r effects-aim.targets_by.Reads.Post
   pub effects-errors-raised : One effects-errors.raised.Kinds.ps effects-errors.raised.Kinds.r effects-errors.raised.Reads.Post
   pub effects-errors-counted : One effects-errors.counted.Kinds.ps effects-errors.counted.Kinds.r effects-errors.counted.Reads.Post

@@ -1,20 +1,19 @@
--- Sentences of document 01, and of document 02, requests (ii) and (iii), that no law states, each tried at a head made with 31: what is put to it, and
+-- Sentences of document 01, and of document 02, requests (ii), (iii) and (ix), each tried at a head made with 31, many of which no law states: what is put to it, and
 -- all that it replies. Telegrams that a wrong definition would answer otherwise: the errors that others made, the codes, the lists, freezing, calibration,
--- the status word, the resets, Auto-ID.
+-- the status word, the resets, Auto-ID, alpha-numeric display.
 -- Assumes nothing.
 use Prim.Native.Nat.{ℕ}
 use mathlib.Core.Path.{_≡_}
 use mathlib.Core.List.{List, [], _∷_, _++_, map}
 use lib.IntN.{pos}
-use Rattle.signed.specs.Number.{minus}
 use Rattle.state.specs.declared.parts.Head.{Head}
 use Rattle.effects.specs.Restart.{freshOf}
 use Rattle.head.specs.Moves.{keyedOf}
-use Rattle.head.specs.Outcome.{Ask, tick, measure, called}
+use Rattle.head.specs.Outcome.{Ask, tick, measure, load, called}
 use Rattle.line.specs.Round.{saidBy}
 use Rattle.demands.specs.Cases.{split, heardAll, saidAll}
 
--- ten bytes heard at a time, written as one number; or a tick, a measurement, power; or a key state
+-- ten bytes heard at a time, written as one number; or a tick, a measurement, power, a sheet loaded; or a key state
 pub data Step : Type 0 where
   hears : ℕ → ℕ → Step
   asked : Ask → Step
@@ -126,4 +125,21 @@ sentences =
     -- the data of a read of FAh are ignored
     ∷ told (hears 0 0x011FFF020000000000E3 ∷ hears 0 0x011FAA000000000001B5 ∷ hears 0 0x011FA7000000000001B8 ∷ hears 0 0x011FA0000000000002BC ∷ hears 0 0x001FFC000000000000E3 ∷ hears 0 0x001F200000000000003E ∷ hears 0 0x001F200000000000003E ∷ hears 0 0x001F200000000000003E ∷ hears 0 0x011FA8000000000001B7 ∷ hears 0 0x011F0400000000000913 ∷ hears 0 0x001FFE000000000000E1 ∷ hears 0 0x011FFF021000000000F3 ∷ hears 0 0x011FFF02100000006497 ∷ hears 0 0x011F1F00000000006465 ∷ hears 0 0x011FA7000000000001B8 ∷ hears 0 0x001FFA0000FF0000001A ∷ [])
     (0x011FFF000000000000E1 ∷ 0x011FAA05380000000188 ∷ 0x011FA705380000000185 ∷ 0x011FA005380000000281 ∷ 0x001FFC053800000000DE ∷ 0x001FFD0538000000805F ∷ 0x001FFD0538000000805F ∷ 0x001FFD05B800000080DF ∷ 0x011FA805B8000000010A ∷ 0x011F0405B800000009AE ∷ 0x001FFE04B8000000005D ∷ 0x011FFF04B8000000005D ∷ 0x011FFF04B80000006439 ∷ 0x011F1F048100000064E0 ∷ 0x011FA704A80000000114 ∷ 0x001FFA04A8000004A8E5 ∷ [])
+    -- document 02, request (ix): entering alpha-numeric display makes the set point invalid; a job number of four characters is told by bit 9, and by bit 7 of the last
+    -- taken control word alone; bits 6 and 10 acknowledge what is valid, left what lacks it; a write withdraws; leaving makes invalid, and the value stays
+    ∷ told (hears 0 0x011FFF02000000006487 ∷ hears 0 0x011F2800000000000335 ∷ hears 0 0x001FFA000000000000E5 ∷ hears 0 0x011FFB00844A4F423711 ∷ hears 0 0x001FFB000000000000E4 ∷ hears 0 0x011FFF024000000007A4 ∷ hears 0 0x001FFA000000000000E5 ∷ presses 1 ∷ hears 0 0x001FFA000000000000E5 ∷ presses 0 ∷ hears 0 0x011FFB000400000005E4 ∷ hears 0 0x001FFA000000000000E5 ∷ hears 0 0x011FFB040000000005E4 ∷ hears 0 0x001FFA000000000000E5 ∷ hears 0 0x011FFF060000000007E0 ∷ hears 0 0x001FFA000000000000E5 ∷ hears 0 0x011F2800000000000234 ∷ hears 0 0x001FFA000000000000E5 ∷ hears 0 0x001FFF000000000000E0 ∷ [])
+    (0x011FFF00000000006485 ∷ 0x011F2800000000000335 ∷ 0x001FFA000000000000E5 ∷ 0x011FFB00004A4F423795 ∷ 0x001FFB02044A4F423792 ∷ 0x011FFF020400000007E0 ∷ 0x001FFA042400000424E5 ∷ 0x001FFA242C0000242CE5 ∷ 0x011FFB042C00000005C8 ∷ 0x001FFA042400000424E5 ∷ 0x011FFB042400000005C0 ∷ 0x001FFA042000000420E5 ∷ 0x011FFF042000000007C2 ∷ 0x001FFA040000000400E5 ∷ 0x011F2800000000000234 ∷ 0x001FFA000000000000E5 ∷ 0x001FFF000000000007E7 ∷ [])
+    -- 28h takes 3 and not 4; neither an FFh write nor a measurement sets the static bit there; A0h 5 leaves the mode alone, A0h 2 and a broadcast of A0h 1 leave it; bit 3
+    -- does not wait for bit 10
+    ∷ told (hears 0 0x011F2800000000000432 ∷ hears 0 0x011F2800000000000335 ∷ hears 0 0x011FFF020000000000E3 ∷ asked (measure (pos 1)) ∷ hears 0 0x001FFA000000000000E5 ∷ hears 0 0x011FA0000000000005BB ∷ hears 0 0x001FFA000000000000E5 ∷ hears 0 0x011FA0000000000002BC ∷ hears 0 0x001FFA000000000000E5 ∷ hears 0 0x011F2800000000000335 ∷ hears 0 0x011FFB040400000009EC ∷ hears 0 0x001FFA000000000000E5 ∷ hears 0 0x0200A0000000000001A3 ∷ hears 0 0x001FFA000000000000E5 ∷ hears 0 0x001F2800000000000037 ∷ [])
+    (0x011FFD00000000028263 ∷ 0x011F2800000000000335 ∷ 0x011FFF000000000000E1 ∷ 0x001FFA040000000400E5 ∷ 0x011FA0040000000005BF ∷ 0x001FFA040000000400E5 ∷ 0x011FA0000000000002BC ∷ 0x001FFA000000000000E5 ∷ 0x011F2800000000000335 ∷ 0x011FFB000000000009EC ∷ 0x001FFA000C0000000CE5 ∷ 0x001FFA000000000000E5 ∷ 0x001F2800000000000037 ∷ [])
+    -- left takes a pending error first, then gives, then calibrates, one at a time; star gives with 3Eh 2 alone; a restart stays in the mode, with nothing valid
+    ∷ told (asked (measure (pos 100)) ∷ hears 0 0x011F2800000000000335 ∷ hears 0 0x011FFB000400000001E0 ∷ hears 0 0x001F200000000000003E ∷ hears 0 0x001F200000000000003E ∷ hears 0 0x001F200000000000003E ∷ presses 1 ∷ hears 0 0x001FFA000000000000E5 ∷ presses 0 ∷ presses 1 ∷ hears 0 0x001FFE000000000000E1 ∷ presses 0 ∷ presses 1 ∷ hears 0 0x001FFE000000000000E1 ∷ presses 0 ∷ hears 0 0x011FFB000400000002E3 ∷ presses 2 ∷ hears 0 0x001FFA000000000000E5 ∷ presses 0 ∷ hears 0 0x011F3E00000000000222 ∷ presses 2 ∷ hears 0 0x001FFA000000000000E5 ∷ presses 0 ∷ hears 0 0x011FA0000000000009B7 ∷ hears 0 0x001FFA000000000000E5 ∷ hears 0 0x001F2800000000000037 ∷ [])
+    (0x011F2800000000000335 ∷ 0x011FFB000000000001E4 ∷ 0x001FFD00040000008066 ∷ 0x001FFD00040000008066 ∷ 0x001FFD008400000080E6 ∷ 0x001FFA200400002004E5 ∷ 0x001FFE200C00000064A9 ∷ 0x001FFE200C00000000CD ∷ 0x011FFB000C00000002EB ∷ 0x001FFA400400004004E5 ∷ 0x011F3E00040000000226 ∷ 0x001FFA400C0000400CE5 ∷ 0x011FA0000C00000009BB ∷ 0x001FFA000000000000E5 ∷ 0x001F2800000000000334 ∷ [])
+    -- a sheet enters, too, and leaves; 3 over 3 is no change; the characters stay
+    ∷ told (hears 0 0x011FFF020000000000E3 ∷ hears 0 0x001F200000000000003F ∷ asked (load (split 8 0x0128000400000003)) ∷ hears 0 0x001F200000000000003F ∷ hears 0 0x011FFB00844A4F423711 ∷ asked (load (split 8 0x0128000400000003)) ∷ hears 0 0x001F200000000000003F ∷ asked (load (split 8 0x0128000400000000)) ∷ hears 0 0x001F200000000000003F ∷ hears 0 0x001FFB000000000000E4 ∷ [])
+    (0x011FFF000000000000E1 ∷ 0x001F2004380000000506 ∷ 0x001F200000000000053A ∷ 0x011FFB00004A4F423795 ∷ 0x001F200204000000053C ∷ 0x001F200000000000053A ∷ 0x001FFB00004A4F423794 ∷ [])
+    -- up switches incremental as before, which bit 9 does not show there; the 03h answer and FCh go on
+    ∷ told (hears 0 0x011F2800000000000335 ∷ presses 4 ∷ hears 0 0x001FFA000000000000E5 ∷ presses 0 ∷ asked (measure (pos 20)) ∷ hears 0 0x011F030000000000021F ∷ hears 0 0x011FFF02000000006487 ∷ hears 0 0x001FFC000000000000E3 ∷ hears 0 0x011F2800000000000036 ∷ [])
+    (0x011F2800000000000335 ∷ 0x001FFA800000008000E5 ∷ 0x011F030000000000021F ∷ 0x011FFF0000FFFFFFB0AE ∷ 0x001FFC0400FFFFFFB0A8 ∷ 0x011F2802000000000034 ∷ [])
     ∷ []

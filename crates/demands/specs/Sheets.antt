@@ -32,6 +32,7 @@ use Rattle.demands.specs.Calls as calls
 use Rattle.demands.specs.Calls.{Calls, named, load, _▸_}
 use Rattle.demands.specs.Past.{allStored, allRight, loadable, count, value, inForce}
 use Rattle.demands.specs.Run.{System, machineOf, runs}
+use Rattle.demands.specs.Alone.{Turned}
 use Rattle.demands.specs.Lines.{Fits}
 use Rattle.demands.specs.Demand1.{first, ownRows, saveRows}
 
@@ -77,12 +78,13 @@ pub record Loaded (h k : Head) (s : List ℕ) : Type 0 where
   -- 00h and 01h come into force at the next restart
   pub number : k .stored .number ≡ h .stored .number
   pub baud : k .stored .baud ≡ h .stored .baud
-  -- the interlock, an offer, the errors, the kept values and the calibration, the set points with the static bit, the monitor, the bytes gathered, the keys stay
+  -- the interlock, an offer, the errors, the kept values and the calibration, the monitor, the bytes gathered and the keys stay
   pub unlocked : k .stored .unlocked ≡ h .stored .unlocked
   pub offer : k .stored .offer ≡ h .stored .offer
   pub faults : k .faults ≡ h .faults
   pub measurement : k .measurement ≡ h .measurement
-  pub targets : k .targets ≡ h .targets
+  -- so do the set points with the static bit, but that alpha-numeric display may be entered or left (document 02, request (ix))
+  pub targets : Turned h k
   pub monitor : k .monitor ≡ h .monitor
   pub ear : k .ear ≡ h .ear
   pub keys : k .keys ≡ h .keys

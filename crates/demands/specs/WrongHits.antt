@@ -1,18 +1,20 @@
 -- Versions that keep the wrong thing of a damaged telegram (document 02, request (i)), each as a system of its own, and that it does not meet Hits;
--- that no system whose restart leaves it meets Demand2; and that one whose head goes by what it keeps does not meet Unseen.
+-- that no system whose restart leaves it, or that shows something else, meets Demand2; and that one whose head goes by what it keeps does not meet Unseen.
 -- Assumes nothing.
 use Prim.Native.Nat.{ℕ}
 use mathlib.Core.Path.{_≡_}
 use mathlib.Core.Bool.{cond}
 use mathlib.Core.List.{List}
 use lib.Dec.{ltb, eqb}
+use lib.ListN.{set}
 use Rattle.wire.specs.Check.{xorAll}
 use Rattle.wire.specs.Telegram.{fieldsOf}
 use Rattle.judge.specs.Judged.{judgedOf}
 use Rattle.state.specs.declared.parts.Head.{Head}
-use Rattle.effects.specs.Restart.{restartedOf}
+use Rattle.effects.specs.Restart.{restartedOf, freshOf}
 use Rattle.head.specs.Hear.{gatheredOf, standingOf, restartsOf, tellOf, withEar}
 use Rattle.head.specs.declared.calls.Heard.the-variants as heard
+use Rattle.head.specs.declared.calls.Hit.the-variants.{Bits}
 use Rattle.head.specs.Calls as head
 use Rattle.head.specs.Outcome as alone
 use Rattle.line.specs.declared.calls.Line.{Line}
@@ -98,6 +100,10 @@ muted =
       onLine = product .onLine;
     }
 
+-- a line of two heads, of which the second keeps 5; what is shown of the first
+abbrev pub pair : Line
+pair = record { heads = set (set (line.emptyOf .heads) 0 (freshOf 31)) 1 (keeping (freshOf 12) 5); count = 2 }
+
 pub record WrongHits : Type 0 where
   pub zero-kept-fails : Hits zeroKept → ⊥
   pub others-missed-fails : Hits othersMissed → ⊥
@@ -106,3 +112,6 @@ pub record WrongHits : Type 0 where
   pub yes-kept-fails : Hits yesKept → ⊥
   pub kept-at-power-fails : (m : System) → KeptAtPower m → Demand2 m → ⊥
   pub muted-fails : Unseen muted → ⊥
+  -- nothing is shown of what is kept; the first head's is shown for that of the head that is named
+  pub nothing-shown-fails : (m : System) → m .onHead .hit (keeping (freshOf 31) 5) ≡ Bits 0 → Demand2 m → ⊥
+  pub first-shown-fails : (m : System) → m .onLine .hit pair 1 ≡ m .onHead .hit (freshOf 31) → Demand2 m → ⊥

@@ -1,4 +1,5 @@
--- Versions that are wrong in a sheet, and that they fail what is asked of a system: each is wrong in one call on a new head, whatever its others do.
+-- Versions that are wrong in a sheet, and that they fail what is asked of a system: each is wrong in one call on a new head, or on a line of two,
+-- whatever its others do.
 -- Assumes nothing.
 use Prim.Native.Nat.{ℕ}
 use mathlib.Core.Path.{_≡_}
@@ -15,6 +16,8 @@ use Rattle.head.specs.declared.calls.Answer.the-variants.{Done, Refused}
 use Rattle.head.specs.Hear.{withEar}
 use Rattle.head.specs.Calls as head
 use Rattle.head.specs.Outcome as alone
+use Rattle.line.specs.declared.calls.Line.{Line}
+use Rattle.line.specs.Calls as line
 use Rattle.demands.specs.Cases.{split}
 use Rattle.demands.specs.Run.{System}
 use Rattle.demands.specs.Demand1.{Demand1}
@@ -84,6 +87,13 @@ lowFirst m = m .onHead .sheet new (replicate 274 1) ≡ set (set (head.saveSpace
 abbrev pub fewRows : System → Type 0
 fewRows m = m .onHead .sheet new (replicate 274 1) ≡ set (head.saveSpaceOf new (replicate 274 1)) 0 38
 
+-- on a line of heads at 31 and at 12 the first head's sheet for that of the second
+abbrev pub pair : Line
+pair = record { heads = set (set (line.emptyOf .heads) 0 new) 1 (freshOf 12); count = 2 }
+
+abbrev pub firstSaved : System → Type 0
+firstSaved m = m .onLine .sheet pair 1 (replicate 274 1) ≡ m .onHead .sheet new (replicate 274 1)
+
 pub record WrongSheets : Type 0 where
   pub later-fails : (m : System) → Takes m new later → Demand1 m → ⊥
   pub twice-fails : (m : System) → Takes m new twice → Demand1 m → ⊥
@@ -103,3 +113,4 @@ pub record WrongSheets : Type 0 where
   pub overrun-fails : (m : System) → m .onHead .save new 275 ≡ Done → overrun m → Sheets m → ⊥
   pub low-first-fails : (m : System) → m .onHead .save new 274 ≡ Done → lowFirst m → Sheets m → ⊥
   pub few-rows-fails : (m : System) → m .onHead .save new 274 ≡ Done → fewRows m → Sheets m → ⊥
+  pub first-saved-fails : (m : System) → m .onHead .save new 274 ≡ Done → m .onHead .save (freshOf 12) 274 ≡ Done → firstSaved m → Sheets m → ⊥

@@ -19,7 +19,7 @@ use Rattle.line.specs.Calls as line
 use Rattle.demands.specs.Run.{System, product}
 use Rattle.demands.specs.Wrong.{refusing, counting, inventing, zeroing}
 use Rattle.demands.proofs.Computing.{computing}
-use Rattle.demands.proofs.Wrongs.{gathered}
+use Rattle.demands.specs.Cases.{gathered}
 use Rattle.master.specs.declared.Reading.{Reading}
 use Rattle.master.specs.declared.Reading.the-variants.{Value, Error, Foreign}
 use Rattle.master.specs.Master.{builtOf, meaningOf, readingOf}

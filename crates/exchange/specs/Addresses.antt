@@ -123,7 +123,7 @@ limits =
     ∷ limit 0x20 0 9999
     ∷ limit 0x21 0 2
     ∷ limit 0x22 0 9999
-    ∷ limit 0x28 0 2
+    ∷ limit 0x28 0 3
     ∷ limit 0x30 0 1
     ∷ limit 0x31 0 9999
     ∷ limit 0x32 0 1

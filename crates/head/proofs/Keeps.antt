@@ -19,16 +19,18 @@ use Rattle.judge.proofs.Allowed.{Allowed, deed-allowed}
 use Rattle.state.specs.declared.parts.Head.{Head}
 use Rattle.state.specs.declared.parts.Stored.{Stored}
 use Rattle.state.specs.declared.parts.Ear.{Ear}
-use Rattle.state.specs.Settings.{valueAt, timeoutPlace, calibrationKeyPlace, incrementalKeyPlace}
+use Rattle.state.specs.Settings.{valueAt, timeoutPlace, calibrationKeyPlace, incrementalKeyPlace, acknowledgementPlace}
+use Rattle.state.specs.Mode.{displayOf}
 use Rattle.state.specs.Wellformed.{inReachOf, earFits, wellformedOf}
 use Rattle.state.proofs.Laws.{told, holds, stored-told, stored-holds, ear-holds}
+use Rattle.effects.specs.Aimed.{lackingOf}
 use Rattle.effects.specs.Restart.{emptyEar, restartedOf, freshOf}
 use Rattle.sheet.specs.Loading.{allFittingOf}
 use Rattle.sheet.proofs.Loads.{stored-right}
 use Rattle.effects.proofs.Keeps.{either, stored-keeps, counted-keeps, complained-keeps, faults-keeps, raised-keeps, calibrated-keeps, switched-keeps, moved-keeps, measurement-keeps, empty-ear-fits, pending-keeps, restarted-keeps, adopted-keeps, fresh-keeps}
 use Rattle.head.specs.declared.hear.Stepped.{Stepped}
 use Rattle.head.specs.Hear.{elapsedOf, keptEar, oneMore, gatheredOn, gatheredOf, standingOf, restartsOf, affectedOf, toldOf, tellOf, withEar, stepBy, stepOf}
-use Rattle.head.specs.Moves.{overdueOf, tickedOf, measuredOf, withKeys, leftKey, upKey, pressedOf, leftOf, upOf, leftTaken, adoptsOf, keyedOf}
+use Rattle.head.specs.Moves.{overdueOf, tickedOf, measuredOf, withKeys, leftKey, starKey, upKey, pressedOf, leftOf, starOf, upOf, starTaken, adoptsOf, keyedOf}
 use Rattle.head.specs.Calls.{nodeFits, factoryOf, loadedOf}
 
 -- what holds of both ways of a test holds of it
@@ -107,9 +109,18 @@ left-fits on h f =
     either wellformedOf on _ h
     (λ t. either wellformedOf (not (eqb (h .faults .pending) 0)) _ _
     (λ p. holds _ (record { stored = w .stored; faults = pending-keeps (h .faults) 0 (w .faults); measurement = w .measurement; ear = w .ear; keys = w .keys }))
+    (either wellformedOf (displayOf (h .stored .values) && lackingOf (h .targets)) _ _ (λ a. holds _ (record { stored = w .stored; faults = w .faults; measurement = w .measurement; ear = w .ear; keys = w .keys }))
     (either wellformedOf (eqb (valueAt (h .stored .values) calibrationKeyPlace) 1) _ h
     (λ k. holds _ (record { stored = w .stored; faults = w .faults; measurement = calibrated-keeps (h .stored .values) (h .measurement) (stored-told (h .stored) (w .stored) .values) (w .measurement); ear = w .ear; keys = w .keys }))
-    f))
+    f)))
+    f
+
+star-fits : (on : Bool) (h : Head) → Fit h → Fit (starOf on h)
+unfolding starOf
+star-fits on h f =
+    let w = told h f in
+    either wellformedOf (on && (displayOf (h .stored .values) && eqb (valueAt (h .stored .values) acknowledgementPlace) 2)) _ h
+    (λ t. holds _ (record { stored = w .stored; faults = w .faults; measurement = w .measurement; ear = w .ear; keys = w .keys }))
     f
 
 up-fits : (on : Bool) (h : Head) → Fit h → Fit (upOf on h)
@@ -120,19 +131,31 @@ up-fits on h f =
     (λ t. holds _ (record { stored = w .stored; faults = w .faults; measurement = switched-keeps (h .measurement) (w .measurement); ear = w .ear; keys = w .keys }))
     f
 
--- left leaves the stored part and the bytes gathered as they are
-pub left-stored : (on : Bool) (h : Head) → leftOf on h .stored ≡ h .stored
+-- left and star leave the stored part as it is
+left-stored : (on : Bool) (h : Head) → leftOf on h .stored ≡ h .stored
 unfolding leftOf
 left-stored on h =
-    same (λ x. x .stored ≡ h .stored) on (same (λ x. x .stored ≡ h .stored) (not (eqb (h .faults .pending) 0)) refl (same (λ x. x .stored ≡ h .stored) (eqb (valueAt (h .stored .values) calibrationKeyPlace) 1) refl refl)) refl
+    same (λ x. x .stored ≡ h .stored) on
+    (same (λ x. x .stored ≡ h .stored) (not (eqb (h .faults .pending) 0)) refl
+    (same (λ x. x .stored ≡ h .stored) (displayOf (h .stored .values) && lackingOf (h .targets)) refl
+    (same (λ x. x .stored ≡ h .stored) (eqb (valueAt (h .stored .values) calibrationKeyPlace) 1) refl refl)))
+    refl
+
+star-stored : (on : Bool) (h : Head) → starOf on h .stored ≡ h .stored
+unfolding starOf
+star-stored on h =
+    same (λ x. x .stored ≡ h .stored) (on && (displayOf (h .stored .values) && eqb (valueAt (h .stored .values) acknowledgementPlace) 2)) refl refl
+
+pub taken-stored : (h : Head) (k : ℕ) → starTaken h k .stored ≡ h .stored
+taken-stored h k = star-stored _ (leftOf (pressedOf k (h .keys) leftKey) (withKeys h k)) ∙ left-stored _ (withKeys h k)
 
 pub keys-fits : (h : Head) (k : ℕ) → leb k 7 ≡ true → wellformedOf h ≡ true → wellformedOf (keyedOf h k .head) ≡ true
 unfolding keyedOf
 keys-fits h k r f =
     let w = told h f in
-    let l : Fit (leftTaken h k) = left-fits (pressedOf k (h .keys) leftKey) _ (holds _ (record { stored = w .stored; faults = w .faults; measurement = w .measurement; ear = w .ear; keys = leb-true k 7 r })) in
+    let l : Fit (starTaken h k) = star-fits (pressedOf k (h .keys) starKey) _ (left-fits (pressedOf k (h .keys) leftKey) _ (holds _ (record { stored = w .stored; faults = w .faults; measurement = w .measurement; ear = w .ear; keys = leb-true k 7 r }))) in
     either (λ (s : Stepped). wellformedOf (s .head)) (adoptsOf h k) _ _
-    (λ t. adopted-keeps (leftTaken h k) (ap (λ (s : Stored). eqb (s .offer) 0) (left-stored _ (withKeys h k)) ∙ not-true (eqb (h .stored .offer) 0) (and-eq-true-iff (pressedOf k (h .keys) upKey) _ .0 t .1)) l)
+    (λ t. adopted-keeps (starTaken h k) (ap (λ (s : Stored). eqb (s .offer) 0) (taken-stored h k) ∙ not-true (eqb (h .stored .offer) 0) (and-eq-true-iff (pressedOf k (h .keys) upKey) _ .0 t .1)) l)
     (up-fits (pressedOf k (h .keys) upKey) _ l)
 
 pub restart-fits : (h : Head) → wellformedOf h ≡ true → wellformedOf (restartedOf h) ≡ true

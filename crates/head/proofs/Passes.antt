@@ -18,10 +18,12 @@ use Rattle.judge.specs.Judged.{judgedOf}
 use Rattle.judge.specs.Verdicts.{verdictOf}
 use Rattle.judge.proofs.Laws.{casts-is}
 use Rattle.state.specs.declared.parts.Head.{Head}
+use Rattle.state.specs.Settings.{valueAt, modePlace}
 use Rattle.effects.specs.Stored.{storedBy}
 use Rattle.effects.specs.Faults.{complainedOf, faultsBy}
 use Rattle.effects.specs.Measured.{measurementBy}
 use Rattle.effects.specs.Aimed.{targetsBy}
+use Rattle.effects.proofs.Turns.{turned-same}
 use Rattle.head.specs.declared.hear.Gathered.{Gathered}
 use Rattle.head.specs.declared.hear.Stepped.{Stepped}
 use Rattle.head.specs.Hear.{gatheredOf, standingOf, restartsOf, toldOf, passesOf, passedOf, tellOf, withEar, stepOf}
@@ -44,7 +46,7 @@ module _ (ten : List ℕ) (h : Head) (at : ℕ) where
 
   silent : hitOf ten ≡ 0 → verdictOf (hitOf ten) (fieldsOf ten) (standingOf h) ≡ Silent → tellOf h ten at ≡ unanswered (passedOf h at)
   unfolding tellOf toldOf passedOf judgedOf deedOf storedBy faultsBy complainedOf measurementBy targetsBy restartsOf replyOf silence
-  silent s v = rw (v, s)
+  silent s v = rw (v, s, turned-same (valueAt (h .stored .values) modePlace) (h .targets))
 
   -- what a head does with a sound telegram for another node, in short
   pub passes-tell : passesOf ten (h .stored .number) ≡ true → tellOf h ten at ≡ unanswered (passedOf h at)

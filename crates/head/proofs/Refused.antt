@@ -22,11 +22,13 @@ use Rattle.judge.specs.Verdicts.{verdictOf}
 use Rattle.judge.specs.Deeds.{refusedBy, deedOf}
 use Rattle.judge.proofs.Offers.{drops}
 use Rattle.state.specs.declared.parts.Head.{Head}
+use Rattle.state.specs.Settings.{valueAt, modePlace}
 use Rattle.state.specs.Wellformed.{wellformedOf}
 use Rattle.effects.specs.Stored.{withOffer, storedBy}
 use Rattle.effects.specs.Faults.{countedOf, complainedOf, faultsBy}
 use Rattle.effects.specs.Measured.{measurementBy}
 use Rattle.effects.specs.Aimed.{targetsBy}
+use Rattle.effects.proofs.Turns.{turned-same}
 use Rattle.effects.specs.Restart.{emptyEar}
 use Rattle.sheet.specs.declared.refusal.Refusal as sheet
 use Rattle.head.specs.declared.refusal.Refusal.{Refusal}
@@ -84,8 +86,8 @@ pub data Unheeded : Verdict → Type 0 where
 idle : (j : Judged) (h : Head) (at : ℕ) (dropped : Bool) → j .deed ≡ cond dropped Withdraw Nothing
     → toldOf j h at ≡ untold dropped (j .verdict) (j .hit) h at
 unfolding toldOf storedBy faultsBy measurementBy targetsBy restartsOf
-idle j h at true e = rw e
-idle j h at false e = rw e
+idle j h at true e = rw (e, turned-same (valueAt (h .stored .values) modePlace) (h .targets))
+idle j h at false e = rw (e, turned-same (valueAt (h .stored .values) modePlace) (h .targets))
 
 pub unheeded-only : (h : Head) (ten : List ℕ) (at : ℕ) → let j = judgedOf ten (standingOf h) in
     Unheeded (j .verdict) → toldOf j h at ≡ untold (drops (j .verdict) (fieldsOf ten .parameter)) (j .verdict) (j .hit) h at

@@ -9,9 +9,10 @@ use lib.ListN.{length, drop}
 use Rattle.rows.specs.Table.{rowOf}
 use Rattle.rows.specs.Ranges.{fitsIn}
 use Rattle.state.specs.declared.parts.Head.{Head}
-use Rattle.state.specs.Settings.{nodePlace}
+use Rattle.state.specs.Settings.{valueAt, nodePlace, modePlace}
 use Rattle.state.specs.Wellformed.{inReachOf, wellformedOf}
 use Rattle.effects.specs.Stored.{withValues}
+use Rattle.effects.specs.Aimed.{turnedOf}
 use Rattle.effects.specs.Restart.{restartedOf, withStored, freshOf}
 use Rattle.sheet.specs.declared.refusal.Refusal.the-variants as sheet
 use Rattle.sheet.specs.declared.refusal.Answer as sheet-Answer
@@ -31,7 +32,7 @@ use Rattle.head.specs.declared.calls.Hit.{Hit}
 use Rattle.head.specs.declared.calls.Hit.the-variants as hit
 use Rattle.head.specs.declared.hear.Stepped.{Stepped}
 use Rattle.head.specs.Hear.{stepOf}
-use Rattle.head.specs.Moves.{tickedOf, measuredOf, keyedOf}
+use Rattle.head.specs.Moves.{withTargets, tickedOf, measuredOf, keyedOf}
 
 -- ---- tests in their order, each with the refusal that is given where it fails: the first that fails decides
 abbrev pub Tests : Type 0
@@ -118,12 +119,18 @@ powerOf h = askedOf h [] (restartedOf h)
 unfoldable pub lastHitOf : Head → Hit
 lastHitOf h = guarded hit.Refused ((wellformedOf h, Malformed) ∷ []) (hit.Bits (h .faults .hit))
 
--- ---- a sheet is loaded: 11, then 12, then 13; where all hold, its values are stored at the places of their addresses, and no other part of the head changes
+-- ---- a sheet is loaded: 11, then 12, then 13; where all hold, its values are stored at the places of their addresses; and no other part of the head changes, but that
+-- alpha-numeric display may be entered or left
 abbrev pub sheetTests : List ℕ → Tests
 sheetTests s = (wellFormedOf s, Sheet sheet.Malformed) ∷ (allKnownOf s, Sheet sheet.NotStored) ∷ (allFittingOf s, Sheet sheet.OutOfRow) ∷ []
 
+abbrev pub loadedValues : Head → List ℕ → List ℕ
+loadedValues h s = storedRows (h .stored .values) s (countOf s)
+
 unfoldable pub loadedOf : Head → List ℕ → Head
-loadedOf h s = withStored h (withValues (h .stored) (storedRows (h .stored .values) s (countOf s)))
+loadedOf h s =
+    withTargets (withStored h (withValues (h .stored) (loadedValues h s)))
+    (turnedOf (valueAt (h .stored .values) modePlace) (valueAt (loadedValues h s) modePlace) (h .targets))
 
 unfoldable pub loadOf : Head → List ℕ → Called
 loadOf h s = askedOf h (sheetTests s) (loadedOf h s)

@@ -14,11 +14,13 @@ use Rattle.judge.specs.declared.verdict.Standing.{Standing}
 use Rattle.judge.specs.Judged.{judgedOf}
 use Rattle.state.specs.declared.parts.Head.{Head}
 use Rattle.state.specs.declared.parts.Ear.{Ear}
+use Rattle.state.specs.declared.parts.Targets.{Targets}
 use Rattle.state.specs.declared.parts.Monitor.{Monitor}
+use Rattle.state.specs.Settings.{valueAt, modePlace}
 use Rattle.effects.specs.Stored.{lockedOf, storedBy}
 use Rattle.effects.specs.Faults.{countedOf, complainedOf, faultsBy}
 use Rattle.effects.specs.Measured.{measurementBy}
-use Rattle.effects.specs.Aimed.{targetsBy}
+use Rattle.effects.specs.Aimed.{turnedOf, targetsBy}
 use Rattle.effects.specs.Restart.{emptyEar, restartedOf}
 use Rattle.reply.specs.declared.Said.{Said}
 use Rattle.head.specs.declared.hear.Gathered.{Gathered}
@@ -70,6 +72,12 @@ restartsOf Withdraw = false
 unfoldable pub startedOf : ℕ → ℕ → Monitor → Monitor
 startedOf hit at m = cond (eqb hit 0) (record { running = true; since = at }) m
 
+-- the targets after a telegram: what it does, and then whether it entered or left alpha-numeric display, by 28h before and after
+abbrev pub retargeted : Deed → Head → Targets
+retargeted d h =
+    turnedOf (valueAt (h .stored .values) modePlace) (valueAt (storedBy d (h .stored) .values) modePlace)
+    (targetsBy d (h .stored .values) (h .measurement) (h .targets))
+
 -- the head after a telegram's own effects: each part by its own
 abbrev pub affectedOf : Judged → Head → ℕ → Head
 affectedOf j h at =
@@ -77,7 +85,7 @@ affectedOf j h at =
       stored = storedBy (j .deed) (h .stored);
       faults = faultsBy (j .deed) (h .targets .word) (complainedOf (j .verdict) (countedOf (j .hit) (h .faults)));
       measurement = measurementBy (j .deed) (h .stored .values) (h .measurement);
-      targets = targetsBy (j .deed) (h .stored .values) (h .measurement) (h .targets);
+      targets = retargeted (j .deed) h;
       monitor = startedOf (j .hit) at (h .monitor);
       ear = emptyEar at;
       keys = h .keys;

@@ -1,5 +1,5 @@
 -- What a tick, a measurement and a key state do to a head (document 01, "Times and keys", "Position and status"; a number that is
--- offered: document 02, request (ii)).
+-- offered: document 02, request (ii); set points that are acknowledged: request (ix)).
 -- Assumes nothing.
 use Prim.Native.Nat.{ℕ, _*_, _/_, _%_}
 use mathlib.Core.Bool.{Bool, true, false, cond, not, _&&_}
@@ -13,11 +13,12 @@ use Rattle.state.specs.declared.parts.Faults.{Faults}
 use Rattle.state.specs.declared.parts.Measurement.{Measurement}
 use Rattle.state.specs.declared.parts.Targets.{Targets}
 use Rattle.state.specs.declared.parts.Monitor.{Monitor}
-use Rattle.state.specs.Settings.{valueAt, timeoutPlace, calibrationKeyPlace, incrementalKeyPlace}
+use Rattle.state.specs.Settings.{valueAt, timeoutPlace, calibrationKeyPlace, incrementalKeyPlace, acknowledgementPlace}
+use Rattle.state.specs.Mode.{displayOf}
 use Rattle.state.specs.Status.{statusOf}
 use Rattle.effects.specs.Faults.{raisedOf, withPending}
 use Rattle.effects.specs.Measured.{calibratedOf, switchedOf, movedOf}
-use Rattle.effects.specs.Aimed.{settledOf}
+use Rattle.effects.specs.Aimed.{settledOf, lackingOf, allGivenOf}
 use Rattle.effects.specs.Restart.{stopped, adoptedOf}
 use Rattle.reply.specs.Reply.{adoptionOf}
 use Rattle.head.specs.declared.hear.Stepped.{Stepped}
@@ -55,14 +56,17 @@ tickedOf h at =
     (withMonitor (withFaults h (raisedOf (h .faults) (codeOf Timeout))) stopped)
     h
 
--- a measurement, and the static bit set where bit 5 holds after it
+-- a measurement, and the static bit set where A is within window 1 after it, and never in alpha-numeric display
 unfoldable pub measuredOf : Head → ℤ → Head
 measuredOf h m =
     withTargets (withMeasurement h (movedOf m (h .measurement))) (settledOf (h .stored .values) (movedOf m (h .measurement)) (h .targets))
 
--- the keys by their weights in a key state; the third, star with 2, does nothing
+-- the keys by their weights in a key state
 abbrev pub leftKey : ℕ
 leftKey = 1
+
+abbrev pub starKey : ℕ
+starKey = 2
 
 abbrev pub upKey : ℕ
 upKey = 4
@@ -71,24 +75,31 @@ upKey = 4
 unfoldable pub pressedOf : ℕ → ℕ → ℕ → Bool
 pressedOf keys before weight = eqb (keys / weight % 2) 1 && eqb (before / weight % 2) 0
 
--- left newly pressed acknowledges a pending error, else calibrates if 05h is 1
+-- left newly pressed acknowledges a pending error; else, in alpha-numeric display, all valid set points where one lacks it; else it calibrates if 05h
+-- is 1
 unfoldable pub leftOf : Bool → Head → Head
 leftOf on h =
     cond on
     (cond (not (eqb (h .faults .pending) 0)) (withFaults h (withPending (h .faults) 0))
+    (cond (displayOf (h .stored .values) && lackingOf (h .targets)) (withTargets h (allGivenOf (h .targets)))
     (cond (eqb (valueAt (h .stored .values) calibrationKeyPlace) 1)
     (withMeasurement h (calibratedOf (h .stored .values) (h .measurement)))
-    h))
+    h)))
     h
+
+-- star newly pressed acknowledges all valid set points, in alpha-numeric display with 3Eh 2, whatever the error
+unfoldable pub starOf : Bool → Head → Head
+starOf on h =
+    cond (on && (displayOf (h .stored .values) && eqb (valueAt (h .stored .values) acknowledgementPlace) 2)) (withTargets h (allGivenOf (h .targets))) h
 
 -- up newly pressed switches incremental if 35h is 1
 unfoldable pub upOf : Bool → Head → Head
 upOf on h =
     cond (on && eqb (valueAt (h .stored .values) incrementalKeyPlace) 1) (withMeasurement h (switchedOf (h .measurement))) h
 
--- left is taken before up: the head with its new key state, once left is taken
-abbrev pub leftTaken : Head → ℕ → Head
-leftTaken h keys = leftOf (pressedOf keys (h .keys) leftKey) (withKeys h keys)
+-- left is taken before star, and both before up: the head with its new key state, once left and star are taken
+abbrev pub starTaken : Head → ℕ → Head
+starTaken h keys = starOf (pressedOf keys (h .keys) starKey) (leftOf (pressedOf keys (h .keys) leftKey) (withKeys h keys))
 
 -- up newly pressed where a number is offered
 abbrev pub adoptsOf : Head → ℕ → Bool
@@ -99,5 +110,5 @@ adoptsOf h keys = pressedOf keys (h .keys) upKey && not (eqb (h .stored .offer) 
 unfoldable pub keyedOf : Head → ℕ → Stepped
 keyedOf h keys =
     cond (adoptsOf h keys)
-    (record { head = adoptedOf (leftTaken h keys); replied = true; reply = adoptionOf (statusOf h) (h .stored .offer) })
-    (record { head = upOf (pressedOf keys (h .keys) upKey) (leftTaken h keys); replied = false; reply = replicate 10 0 })
+    (record { head = adoptedOf (starTaken h keys); replied = true; reply = adoptionOf (statusOf h) (h .stored .offer) })
+    (record { head = upOf (pressedOf keys (h .keys) upKey) (starTaken h keys); replied = false; reply = replicate 10 0 })

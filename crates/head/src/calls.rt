@@ -3,10 +3,12 @@ use crate::hear;
 use crate::hear::Stepped;
 use crate::moves;
 use crate::refusal::Refusal;
+use effects::aim;
 use effects::restart;
 use sheet::load;
 use sheet::write;
 use state::parts::Head;
+use state::parts::Setting;
 use state::wellformed;
 ghost use mathlib.Core.Path.{_≡_};
 ghost use mathlib.Core.Bool.{Bool};
@@ -216,7 +218,8 @@ fn told(a: sheet::refusal::Answer) -> Answer
     }
 }
 
-// A sheet loaded, all or nothing, whatever the interlock: the values that it names, and nothing else of the head.
+// A sheet loaded, all or nothing, whatever the interlock: the values that it names, and nothing else of the head, but that alpha-numeric display may
+// be entered or left.
 pub fn load(h: Head, sheet: &[u8]) -> Called
     ensures { λ r. ⌜ r ≡ loadOf h (now (sheet .entry)) ⌝ }
 {
@@ -229,6 +232,7 @@ pub fn load(h: Head, sheet: &[u8]) -> Called
         let a = l.answer;
         s.values = w;
         n.stored = s;
+        n.targets = aim::turned(v[Setting::MODE], w[Setting::MODE], h.targets);
         return Called {
             head: n,
             answer: told(a),

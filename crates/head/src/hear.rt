@@ -11,6 +11,7 @@ use judge::verdict::Standing;
 use state::parts::Ear;
 use state::parts::Head;
 use state::parts::Monitor;
+use state::parts::Setting;
 ghost use mathlib.Core.Path.{_≡_};
 ghost use mathlib.Core.Bool.{Bool};
 ghost use Rattle.head.specs.Hear.{elapsedOf, keptEar, gatheredOf, standingOf, restartsOf, startedOf, affectedOf, toldOf, passesOf, passedOf, tellOf, stepOf};
@@ -103,17 +104,23 @@ fn affected(j: Judged, h: Head, at: u32) -> Head
     ensures { λ r. ⌜ r ≡ affectedOf j h at ⌝ }
 {
     let d = j.deed;
-    let w = j.verdict;
+    let verdict = j.verdict;
     let s = h.stored;
     let v = s.values;
     let t = h.targets;
     let g = h.measurement;
-    let f = errors::complained(w, errors::counted(j.hit, h.faults));
+    let f = errors::complained(verdict, errors::counted(j.hit, h.faults));
     let mut n = h;
-    n.stored = store::stored_by(d, s);
+    let k = store::stored_by(d, s);
+    let w = k.values;
+    n.stored = k;
     n.faults = errors::faults_by(d, t.word, f);
     n.measurement = measure::measurement_by(d, v, g);
-    n.targets = aim::targets_by(d, v, g, t);
+    n.targets = aim::turned(
+        v[Setting::MODE],
+        w[Setting::MODE],
+        aim::targets_by(d, v, g, t),
+    );
     n.monitor = started(j.hit, at, h.monitor);
     n.ear = restart::empty_ear(at);
     n

@@ -5,6 +5,7 @@ use effects::aim;
 use effects::errors;
 use effects::measure;
 use effects::restart;
+use state::mode;
 use state::parts::Head;
 use state::parts::Setting;
 use state::status;
@@ -12,7 +13,7 @@ use wire::fault::Fault;
 ghost use mathlib.Core.Path.{_≡_};
 ghost use mathlib.Core.Bool.{Bool};
 ghost use Prim.Native.Nat.{_<_};
-ghost use Rattle.head.specs.Moves.{overdueOf, tickedOf, measuredOf, pressedOf, leftOf, upOf, keyedOf};
+ghost use Rattle.head.specs.Moves.{overdueOf, tickedOf, measuredOf, pressedOf, leftOf, starOf, upOf, keyedOf};
 
 // Whether the bus timeout has run out: 02h above 0 and at least 100 times 02h ms.
 fn overdue(timeout: u32, elapsed: u32) -> bool
@@ -38,7 +39,7 @@ pub fn ticked(h: Head, at: u32) -> Head
     h
 }
 
-// A measurement; the static bit is set where status bit 5 holds after it.
+// A measurement; the static bit is set where A is within window 1 after it, and never in alpha-numeric display.
 pub fn measured(h: Head, m: i32) -> Head
     ensures { λ r. ⌜ r ≡ measuredOf h m ⌝ }
 {
@@ -51,8 +52,10 @@ pub fn measured(h: Head, m: i32) -> Head
     n
 }
 
-// The keys by their weights in a key state; the third, star with 2, does nothing.
+// The keys by their weights in a key state.
 const LEFT: u32 = 1;
+
+const STAR: u32 = 2;
 
 const UP: u32 = 4;
 
@@ -64,7 +67,8 @@ fn pressed(keys: u32, before: u32, weight: u32) -> bool
     (keys / weight % 2 == 1) & (before / weight % 2 == 0)
 }
 
-// Left, where it is newly pressed, acknowledges a pending error, else calibrates if 05h is 1.
+// Left, where it is newly pressed, acknowledges a pending error; else, in alpha-numeric display, all valid set points where one lacks it; else it
+// calibrates if 05h is 1.
 fn left(on: bool, h: Head) -> Head
     ensures { λ r. ⌜ r ≡ leftOf on h ⌝ }
 {
@@ -79,10 +83,28 @@ fn left(on: bool, h: Head) -> Head
             n.faults = e;
             return n;
         }
+        if mode::is_display(v[Setting::MODE]) & aim::lacking(h.targets) {
+            n.targets = aim::all_given(h.targets);
+            return n;
+        }
         if v[Setting::CALIBRATION_KEY] == 1 {
             n.measurement = measure::calibrated(v, h.measurement);
             return n;
         }
+        return n;
+    }
+    n
+}
+
+// Star, where it is newly pressed, acknowledges all valid set points, in alpha-numeric display with 3Eh 2.
+fn star(on: bool, h: Head) -> Head
+    ensures { λ r. ⌜ r ≡ starOf on h ⌝ }
+{
+    let s = h.stored;
+    let v = s.values;
+    let mut n = h;
+    if on & (mode::is_display(v[Setting::MODE]) & (v[Setting::ACKNOWLEDGEMENT] == 2)) {
+        n.targets = aim::all_given(h.targets);
         return n;
     }
     n
@@ -102,8 +124,8 @@ fn up(on: bool, h: Head) -> Head
     n
 }
 
-// A key state: left is taken before up, each when newly pressed. Where a number is offered, up adopts it: the head says so with the status word
-// of before, and restarts.
+// A key state: left is taken before star, and star before up, each when newly pressed. Where a number is offered, up adopts it: the head says
+// so with the status word of before, and restarts.
 pub fn keyed(h: Head, keys: u32) -> Stepped
     ensures { λ r. ⌜ r ≡ keyedOf h keys ⌝ }
 {
@@ -113,6 +135,7 @@ pub fn keyed(h: Head, keys: u32) -> Stepped
     let mut n = h;
     n.keys = keys;
     n = left(pressed(keys, before, LEFT), n);
+    n = star(pressed(keys, before, STAR), n);
     if on & (offer != 0) {
         let x = reply::adoption(status::status(h), offer);
         return Stepped {

@@ -1,4 +1,4 @@
--- The 39 rows of limits and delivery values (document 01, "Stored parameters").
+-- The 39 rows of limits and delivery values (document 01, "Stored parameters"; 28h up to 3: document 02, request (ix)).
 -- Assumes nothing.
 use Prim.Native.Nat.{ℕ, suc}
 use mathlib.Core.Bool.{Bool, true, false, cond}
@@ -53,7 +53,7 @@ rows =
     ∷ row 0x20 (pos 0) (pos 9999) 5
     ∷ row 0x21 (pos 0) (pos 2) 0
     ∷ row 0x22 (pos 0) (pos 9999) 0
-    ∷ row 0x28 (pos 0) (pos 2) 0
+    ∷ row 0x28 (pos 0) (pos 3) 0
     ∷ row 0x30 (pos 0) (pos 1) 0
     ∷ row 0x31 (pos 0) (pos 9999) 0
     ∷ row 0x32 (pos 0) (pos 1) 0

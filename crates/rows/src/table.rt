@@ -57,7 +57,7 @@ const ROW_21: Row = Row(0x21, 0, 2, 0);
 
 const ROW_22: Row = Row(0x22, 0, 9999, 0);
 
-const ROW_28: Row = Row(0x28, 0, 2, 0);
+const ROW_28: Row = Row(0x28, 0, 3, 0);
 
 const ROW_30: Row = Row(0x30, 0, 1, 0);
 

@@ -26,20 +26,21 @@ use Rattle.state.specs.declared.parts.Measurement.{Measurement}
 use Rattle.state.specs.declared.parts.Ear.{Ear}
 use Rattle.state.specs.declared.status.Bearing.{Bearing}
 use Rattle.state.specs.Bits.{bit, bitSet}
-use Rattle.state.specs.Settings.{valueAt, nodePlace, baudPlace, timeoutPlace, responsePlace, calibrationKeyPlace, divisorPlace, interlockPlace, directionPlace, offsetPlace, calibrationPlace, window1Place, window2Place, applicationPlace, differencePlace, incrementalKeyPlace}
+use Rattle.state.specs.Settings.{valueAt, nodePlace, baudPlace, timeoutPlace, responsePlace, calibrationKeyPlace, divisorPlace, interlockPlace, directionPlace, offsetPlace, calibrationPlace, window1Place, modePlace, window2Place, applicationPlace, differencePlace, incrementalKeyPlace, acknowledgementPlace}
+use Rattle.state.specs.Mode.{displayOf}
 use Rattle.state.specs.Errors.{entries, entered, rememberedOf}
 use Rattle.state.specs.Position.{positionOf, actualOf, shownOf, positionBy, viewOf}
-use Rattle.state.specs.Status.{aimBitsOf, restBitsOf, aimedOf, statusOf, withinOf}
+use Rattle.state.specs.Status.{aimBitsOf, acknowledgedBitsOf, restBitsOf, aimedOf, pendingOf, positionStatus, displayStatus, statusOf, withinOf}
 use Rattle.state.specs.Wellformed.{inReachOf, offerFits, storedFits, faultsFit, keptFits, measurementFits, earFits, wellformedOf}
 use Rattle.state.proofs.Bits.{bit-most, bit-weighs, bit-five}
 
 -- ---- each place is its address's place
 pub places :
     map placeOf
-    (0x00 ∷ 0x01 ∷ 0x02 ∷ 0x03 ∷ 0x05 ∷ 0x0B ∷ 0x0E ∷ 0x1B ∷ 0x1E ∷ 0x1F ∷ 0x20 ∷ 0x31 ∷ 0x33 ∷ 0x34 ∷ 0x35 ∷ [])
+    (0x00 ∷ 0x01 ∷ 0x02 ∷ 0x03 ∷ 0x05 ∷ 0x0B ∷ 0x0E ∷ 0x1B ∷ 0x1E ∷ 0x1F ∷ 0x20 ∷ 0x28 ∷ 0x31 ∷ 0x33 ∷ 0x34 ∷ 0x35 ∷ 0x3E ∷ [])
     ≡ map At
     (nodePlace ∷ baudPlace ∷ timeoutPlace ∷ responsePlace ∷ calibrationKeyPlace ∷ divisorPlace ∷ interlockPlace ∷ directionPlace
-    ∷ offsetPlace ∷ calibrationPlace ∷ window1Place ∷ window2Place ∷ applicationPlace ∷ differencePlace ∷ incrementalKeyPlace ∷ [])
+    ∷ offsetPlace ∷ calibrationPlace ∷ window1Place ∷ modePlace ∷ window2Place ∷ applicationPlace ∷ differencePlace ∷ incrementalKeyPlace ∷ acknowledgementPlace ∷ [])
 unfolding placeOf rows
 places = refl
 
@@ -55,16 +56,13 @@ module _ (h : Head) where
   abbrev turns : Bool → Bool
   turns clockwise = aims && (not (bearing .inside1) && clockwise)
 
-  abbrev pending : Bool
-  pending = not (eqb (h .faults .pending) 0)
-
   -- the bits below bit 5, and those above it by its double
   abbrev low : ℕ
   low = bit 0 (turns (bearing .clockwise)) + bit 1 (turns (not (bearing .clockwise))) + bit 3 (aims && bearing .inside2) + bit 2 (h .targets .valid1) + bit 4 (h .targets .reached)
 
   abbrev high : ℕ
   high =
-      bit 0 (aims && bearing .above) + 2 * bit 0 pending + 4 * bit 0 (h .measurement .frozen) + 8 * bit 0 (h .measurement .incremental) + 16 * bit 0 aims
+      bit 0 (aims && bearing .above) + 2 * bit 0 (pendingOf h) + 4 * bit 0 (h .measurement .frozen) + 8 * bit 0 (h .measurement .incremental) + 16 * bit 0 aims
       + 128 * (h .keys % 8)
 
   low-small : low < 2 ^ 5
@@ -78,36 +76,56 @@ module _ (h : Head) where
         bit-most 4 (h .targets .reached),
       )
 
-  status-is : statusOf h ≡ low + bit 5 (aims && bearing .inside1) + 2 ^ 6 * high
-  unfolding statusOf aimBitsOf restBitsOf
-  status-is =
+  position-is : positionStatus h ≡ low + bit 5 (aims && bearing .inside1) + 2 ^ 6 * high
+  unfolding aimBitsOf restBitsOf
+  position-is =
       omega (
         arith,
         bit-weighs 6 (aims && bearing .above),
-        bit-weighs 7 pending,
+        bit-weighs 7 (pendingOf h),
         bit-weighs 8 (h .measurement .frozen),
         bit-weighs 9 (h .measurement .incremental),
         bit-weighs 10 aims,
       )
 
-  pub status-fits : statusOf h < 65536
-  status-fits =
+  position-fits : positionStatus h < 65536
+  position-fits =
       omega (
         arith,
-        status-is,
+        position-is,
         low-small,
         bit-most 5 (aims && bearing .inside1),
         bit-most 0 (aims && bearing .above),
-        bit-most 0 pending,
+        bit-most 0 (pendingOf h),
         bit-most 0 (h .measurement .frozen),
         bit-most 0 (h .measurement .incremental),
         bit-most 0 aims,
       )
 
-  -- its bit 5 is what sets the static bit
-  pub within-bit : withinOf (h .stored .values) (h .measurement) (h .targets) ≡ bitSet (statusOf h) 5
-  unfolding withinOf
-  within-bit = rw status-is (sym (bit-five low high (aims && bearing .inside1) low-small))
+  display-fits : displayStatus h < 65536
+  unfolding acknowledgedBitsOf restBitsOf
+  display-fits =
+      omega (
+        arith,
+        bit-most 2 (h .targets .valid1),
+        bit-most 3 (h .targets .acknowledged1),
+        bit-most 5 (h .targets .acknowledged2),
+        bit-most 7 (pendingOf h),
+        bit-most 8 (h .measurement .frozen),
+        bit-most 9 (bitSet (h .targets .word) 7),
+        bit-most 10 aims,
+      )
+
+  pub status-fits : statusOf h < 65536
+  unfolding statusOf
+  status-fits = elim (displayOf (h .stored .values)) as (λ b. cond b (displayStatus h) (positionStatus h) < 65536) [ true ↦ display-fits | false ↦ position-fits ]
+
+  -- its bit 5 is what sets the static bit, but for alpha-numeric display
+  pub within-bit : withinOf (h .stored .values) (h .measurement) (h .targets) ≡ (not (displayOf (h .stored .values)) && bitSet (statusOf h) 5)
+  unfolding withinOf statusOf
+  within-bit =
+      elim (displayOf (h .stored .values)) as (λ b. (not b && (aims && bearing .inside1)) ≡ (not b && bitSet (cond b (displayStatus h) (positionStatus h)) 5))
+      [ true ↦ refl | false ↦ rw position-is (sym (bit-five low high (aims && bearing .inside1) low-small)) ]
 
 -- ---- a list stays one of at most ten
 pub remembered-few : (l : ErrorList) (code : ℕ) → l .count ≤ 10 → rememberedOf l code .count ≤ 10

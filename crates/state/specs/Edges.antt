@@ -37,7 +37,7 @@ head s f g gathered keys =
       stored = s;
       faults = f;
       measurement = g;
-      targets = record { first = 0; valid1 = false; second = 0; valid2 = false; word = 0; reached = false };
+      targets = record { first = 0; valid1 = false; second = 0; valid2 = false; word = 0; reached = false; acknowledged1 = false; acknowledged2 = false };
       monitor = record { running = false; since = 0 };
       ear = record { bytes = replicate 10 0; count = gathered; at = 0 };
       keys = keys;

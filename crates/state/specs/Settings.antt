@@ -44,6 +44,10 @@ offsetPlace = 18
 abbrev pub calibrationPlace : ℕ
 calibrationPlace = 19
 
+-- 28h: operating mode
+abbrev pub modePlace : ℕ
+modePlace = 23
+
 -- 20h and 31h: target windows 1 and 2
 abbrev pub window1Place : ℕ
 window1Place = 20
@@ -61,3 +65,7 @@ differencePlace = 28
 -- 35h: the up key switches incremental measurement
 abbrev pub incrementalKeyPlace : ℕ
 incrementalKeyPlace = 29
+
+-- 3Eh: the keys that acknowledge a set point
+abbrev pub acknowledgementPlace : ℕ
+acknowledgementPlace = 35

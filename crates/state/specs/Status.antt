@@ -1,7 +1,7 @@
--- The status word and the differential value (document 01, "Position and status").
+-- The status word and the differential value (document 01, "Position and status"; alpha-numeric display: document 02, request (ix)).
 -- Assumes nothing.
 use Prim.Native.Nat.{ℕ, _+_, _*_, _%_, _^_}
-use mathlib.Core.Bool.{Bool, cond, not, _&&_}
+use mathlib.Core.Bool.{Bool, false, cond, not, _&&_}
 use mathlib.Core.List.{List}
 use lib.Dec.{leb, eqb}
 use lib.IntN.{ℤ}
@@ -12,8 +12,9 @@ use Rattle.state.specs.declared.parts.Head.{Head}
 use Rattle.state.specs.declared.parts.Measurement.{Measurement}
 use Rattle.state.specs.declared.parts.Targets.{Targets}
 use Rattle.state.specs.declared.status.Bearing.{Bearing}
-use Rattle.state.specs.Bits.{bit}
+use Rattle.state.specs.Bits.{bit, bitSet}
 use Rattle.state.specs.Settings.{valueAt, directionPlace, window1Place, window2Place, differencePlace}
+use Rattle.state.specs.Mode.{displayOf}
 use Rattle.state.specs.Position.{viewOf}
 
 -- bit 0 and not bit 1: A below S with 1Bh 0, or A above S with 1Bh 1
@@ -39,14 +40,18 @@ aimBitsOf valid g =
     + bit 5 (valid && g .inside1)
     + bit 6 (valid && g .above)
 
--- 2 set point 1 valid, 4 static, 7 error pending, 8 frozen, 9 incremental, 10 set point 2 valid, 13 to 15 keys
-unfoldable pub restBitsOf : Targets → Bool → Bool → Bool → ℕ → ℕ
-restBitsOf t pending frozen incremental keys =
+-- in alpha-numeric display 3 and 5 are the acknowledgements of set points 1 and 2, and do not wait for bit 10; 0, 1 and 6 are 0
+unfoldable pub acknowledgedBitsOf : Targets → ℕ
+acknowledgedBitsOf t = bit 3 (t .acknowledged1) + bit 5 (t .acknowledged2)
+
+-- 2 set point 1 valid, 7 error pending, 8 frozen, 10 set point 2 valid, 13 to 15 keys; 4, static, and 9 as told
+unfoldable pub restBitsOf : Targets → Bool → Bool → Bool → Bool → ℕ → ℕ
+restBitsOf t reached pending frozen ninth keys =
     bit 2 (t .valid1)
-    + bit 4 (t .reached)
+    + bit 4 reached
     + bit 7 pending
     + bit 8 frozen
-    + bit 9 incremental
+    + bit 9 ninth
     + bit 10 (t .valid2)
     + keys % 8 * 2 ^ 13
 
@@ -54,14 +59,27 @@ restBitsOf t pending frozen incremental keys =
 unfoldable pub aimedOf : List ℕ → Measurement → Targets → Bearing
 aimedOf vs g t = aimOf vs (viewOf vs g .actual) (numberOf (t .second))
 
-unfoldable pub statusOf : Head → ℕ
-statusOf h =
-    aimBitsOf (h .targets .valid2) (aimedOf (h .stored .values) (h .measurement) (h .targets))
-    + restBitsOf (h .targets) (not (eqb (h .faults .pending) 0)) (h .measurement .frozen) (h .measurement .incremental) (h .keys)
+-- an error is pending
+abbrev pub pendingOf : Head → Bool
+pendingOf h = not (eqb (h .faults .pending) 0)
 
--- bit 5 holds
+-- bit 9 is incremental; the static bit is shown
+abbrev pub positionStatus : Head → ℕ
+positionStatus h =
+    aimBitsOf (h .targets .valid2) (aimedOf (h .stored .values) (h .measurement) (h .targets))
+    + restBitsOf (h .targets) (h .targets .reached) (pendingOf h) (h .measurement .frozen) (h .measurement .incremental) (h .keys)
+
+-- in alpha-numeric display bit 9 is bit 7 of the last taken control word: characters, and not numbers; the static bit is not shown
+abbrev pub displayStatus : Head → ℕ
+displayStatus h =
+    acknowledgedBitsOf (h .targets) + restBitsOf (h .targets) false (pendingOf h) (h .measurement .frozen) (bitSet (h .targets .word) 7) (h .keys)
+
+unfoldable pub statusOf : Head → ℕ
+statusOf h = cond (displayOf (h .stored .values)) (displayStatus h) (positionStatus h)
+
+-- what sets the static bit: set point 2 is valid and A within window 1, and never in alpha-numeric display
 unfoldable pub withinOf : List ℕ → Measurement → Targets → Bool
-withinOf vs g t = t .valid2 && aimedOf vs g t .inside1
+withinOf vs g t = not (displayOf vs) && (t .valid2 && aimedOf vs g t .inside1)
 
 -- A - S if 34h is 0, else S - A, for the set point s
 unfoldable pub differenceOf : List ℕ → Measurement → ℕ → ℤ

@@ -39,7 +39,8 @@ pub struct Measurement {
     pub kept: i64,
 }
 
-// Both set points with their validity, the last taken control word, the static bit.
+// Both set points with their validity, the last taken control word, the static bit, and whether each set point is acknowledged, which only
+// alpha-numeric display knows.
 #[repr(C)]
 pub struct Targets {
     pub first: u32,
@@ -48,6 +49,8 @@ pub struct Targets {
     pub valid2: bool,
     pub word: u16,
     pub reached: bool,
+    pub acknowledged1: bool,
+    pub acknowledged2: bool,
 }
 
 // The bus timeout: running since the last sound telegram, and when that came (0 while it is stopped).
@@ -102,6 +105,8 @@ impl Setting {
 
     pub const WINDOW1: usize = 20;
 
+    pub const MODE: usize = 23;
+
     pub const WINDOW2: usize = 25;
 
     pub const APPLICATION: usize = 27;
@@ -109,4 +114,6 @@ impl Setting {
     pub const DIFFERENCE: usize = 28;
 
     pub const INCREMENTAL_KEY: usize = 29;
+
+    pub const ACKNOWLEDGEMENT: usize = 35;
 }

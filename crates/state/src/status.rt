@@ -1,4 +1,5 @@
 // The status word, and the differential value.
+use crate::mode;
 use crate::parts::Head;
 use crate::parts::Measurement;
 use crate::parts::Setting;
@@ -7,8 +8,8 @@ use crate::position;
 ghost use mathlib.Core.Path.{_≡_};
 ghost use mathlib.Core.Bool.{Bool};
 ghost use Prim.Native.Nat.{_^_, _≤_, _<_};
-ghost use Rattle.state.specs.Bits.{bit};
-ghost use Rattle.state.specs.Status.{clockwiseOf, aimOf, aimBitsOf, restBitsOf, aimedOf, statusOf, withinOf, differenceOf};
+ghost use Rattle.state.specs.Bits.{bit, bitSet};
+ghost use Rattle.state.specs.Status.{clockwiseOf, aimOf, aimBitsOf, acknowledgedBitsOf, restBitsOf, aimedOf, statusOf, withinOf, differenceOf};
 
 // How A lies to set point 2: inside target window 1 (20h), inside window 2 (31h), above it, and the way to go.
 #[repr(C)]
@@ -58,17 +59,33 @@ fn aim_bits(valid: bool, m: Bearing) -> u16
     b0 + b1 + b3 + b5 + b6
 }
 
+// Bits 3 and 5 in alpha-numeric display.
+fn acknowledged_bits(t: Targets) -> u16
+    ensures { λ r. ⌜ (r ≡ acknowledgedBitsOf t) × (r ≤ 40) ⌝ }
+{
+    let b3 = bit(3, t.acknowledged1);
+    let b5 = bit(5, t.acknowledged2);
+    b3 + b5
+}
+
 // The other bits of the low byte and of the high byte.
-fn rest_bits(t: Targets, pending: bool, frozen: bool, incremental: bool, keys: u32) -> u16
-    ensures { λ r. ⌜ (r ≡ restBitsOf t pending frozen incremental keys) × (r ≤ 59284) ⌝ }
+fn rest_bits(t: Targets, reached: bool, pending: bool, frozen: bool, ninth: bool, keys: u32) -> u16
+    ensures { λ r. ⌜ (r ≡ restBitsOf t reached pending frozen ninth keys) × (r ≤ 59284) ⌝ }
 {
     let b2 = bit(2, t.valid1);
-    let b4 = bit(4, t.reached);
+    let b4 = bit(4, reached);
     let b7 = bit(7, pending);
     let b8 = bit(8, frozen);
-    let b9 = bit(9, incremental);
+    let b9 = bit(9, ninth);
     let b10 = bit(10, t.valid2);
     b2 + b4 + b7 + b8 + b9 + b10 + (keys % 8) as u16 * (1 << 13)
+}
+
+// Whether a taken control word says that the set points are characters, and not numbers: its bit 7.
+fn characters(word: u16) -> bool
+    ensures { λ r. ⌜ r ≡ bitSet word 7 ⌝ }
+{
+    word / 128 % 2 == 1
 }
 
 // How A lies to S, set point 2, valid or not.
@@ -87,16 +104,22 @@ pub fn status(h: Head) -> u16
     let v = s.values;
     let m = h.measurement;
     let t = h.targets;
+    let pending = f.pending != 0;
+    if mode::is_display(v[Setting::MODE]) {
+        let x = acknowledged_bits(t);
+        return x + rest_bits(t, false, pending, m.frozen, characters(t.word), h.keys);
+    }
     let x = aim_bits(t.valid2, aimed(v, m, t));
-    x + rest_bits(t, f.pending != 0, m.frozen, m.incremental, h.keys)
+    x + rest_bits(t, t.reached, pending, m.frozen, m.incremental, h.keys)
 }
 
-// Status bit 5: set point 2 is valid and A within window 1.
+// What sets the static bit: set point 2 is valid and A within window 1, and never in alpha-numeric display.
 pub fn within(values: [u32; 39], m: Measurement, t: Targets) -> bool
     ensures { λ r. ⌜ r ≡ withinOf values m t ⌝ }
 {
+    let display = mode::is_display(values[Setting::MODE]);
     let g = aimed(values, m, t);
-    t.valid2 & g.inside1
+    !display & (t.valid2 & g.inside1)
 }
 
 // The differential value for the set point s.

@@ -3,6 +3,7 @@
 
 mod ask;
 mod auto_id;
+mod display;
 mod sheet;
 mod status_word;
 
@@ -17,15 +18,18 @@ use reference::telegram::{Telegram, WRITE};
 
 pub const LINES: usize = 400;
 
-/// Of a hundred steps, in one script after the other: every adoption is a restart, and without some calm heads
-/// have no past to show.
+/// Of a hundred steps, in one script after the other: a head in mode 3 shows nothing of windows.
+const DISPLAY_STEPS: [u32; 3] = [18, 1, 4];
+
+/// Of a hundred of the other steps, likewise: every adoption is a restart, and without some calm heads have no
+/// past to show.
 const AUTO_ID_STEPS: [u32; 4] = [16, 0, 10, 5];
 
-/// Of a hundred of the other steps, likewise.
+/// Of a hundred of those that are left, likewise.
 const STATUS_WORD_STEPS: [u32; 4] = [4, 13, 8, 9];
 
 /// Of a hundred of those that are left, likewise.
-const SHEET_STEPS: [u32; 4] = [9, 12, 8, 14];
+const SHEET_STEPS: [u32; 4] = [10, 13, 9, 15];
 
 /// Unknown words, missing and extra words, numbers that do not fit, hex digits that are none.
 const LINES_THAT_ARE_NONE: &str = "heads 1|HEAD 1|Send 0 00|head|head 1 2|head -1|head +1|head 1F|head 0x1F|\
@@ -45,6 +49,7 @@ pub struct Generator {
     model: Simulation,
     now: u32,
     /// Of a hundred steps.
+    display_steps: u32,
     auto_id_steps: u32,
     status_word_steps: u32,
     sheet_steps: u32,
@@ -64,6 +69,7 @@ pub fn script(seed: u64, number: u64) -> Text {
         random,
         model: Simulation::new(),
         now,
+        display_steps: DISPLAY_STEPS[(number % 3) as usize],
         auto_id_steps: AUTO_ID_STEPS[(number % 4) as usize],
         status_word_steps: STATUS_WORD_STEPS[(number % 4) as usize],
         sheet_steps: SHEET_STEPS[(number % 4) as usize],
@@ -108,6 +114,9 @@ impl Generator {
         if let (Some(twin), true) = (self.twin(), self.random.chance(20)) {
             return self.part(twin);
         }
+        if self.random.chance(self.display_steps) {
+            return self.display();
+        }
         if self.random.chance(self.auto_id_steps) {
             return self.auto_id();
         }
@@ -118,8 +127,8 @@ impl Generator {
             return self.sheet();
         }
         match self.random.below(100) {
-            0..=36 => self.send_telegrams(),
-            37..=48 => self.ask(),
+            0..=35 => self.send_telegrams(),
+            36..=48 => self.ask(),
             49..=54 => self.send_split(),
             55..=57 => self.send_damaged(),
             58..=59 => self.send_stray_bytes(),

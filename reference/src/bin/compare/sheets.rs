@@ -12,7 +12,7 @@ const NOT_STORED: [u8; 20] = [
 
 /// Values beside a row of which there is something to be mistaken in: a lowest that is not 0, a sign, one that is
 /// not listed.
-const BESIDE_THEIR_ROWS: [(u8, i32); 10] = [
+const BESIDE_THEIR_ROWS: [(u8, i32); 11] = [
     (rows::NODE_ADDRESS, 0),
     (rows::NODE_ADDRESS, 0),
     (rows::NODE_ADDRESS, 128),
@@ -20,6 +20,7 @@ const BESIDE_THEIR_ROWS: [(u8, i32); 10] = [
     (0x1C, 65_536),
     (rows::OFFSET_VALUE, -20_000),
     (rows::CALIBRATION_VALUE, 100_000),
+    (rows::OPERATING_MODE, 4),
     (rows::ACKNOWLEDGEMENT_SETTINGS, 1),
     (rows::ACKNOWLEDGEMENT_SETTINGS, 1),
     (rows::ACKNOWLEDGEMENT_SETTINGS, 3),
@@ -63,6 +64,8 @@ fn setting(random: &mut Random, row: &Row) -> Setting {
     let (low, high) = (i64::from(row.low), i64::from(row.high));
     let value = match (row.address, random.below(8)) {
         (rows::ACKNOWLEDGEMENT_SETTINGS, _) => random.pick(&[0, 2]),
+        // In mode 3 nothing is to be seen of windows.
+        (rows::OPERATING_MODE, _) if random.chance(80) => random.between(0, 2),
         // A locked head refuses much of what follows.
         (rows::PROGRAMMING_CONFIGURATION, _) => i64::from(random.chance(15)),
         (_, 0) => low,

@@ -6,9 +6,9 @@ use reference::rows::{self, ROWS};
 use reference::telegram::{Telegram, BROADCAST, READ, TELEGRAM_LENGTH, WRITE};
 
 /// The stored parameters that do more than being read back, the busier ones more than once.
-const EFFECTIVE_ROWS: [u8; 32] = [
+const EFFECTIVE_ROWS: [u8; 33] = [
     0x00, 0x01, 0x02, 0x02, 0x02, 0x03, 0x03, 0x03, 0x05, 0x05, 0x0B, 0x0B, 0x0B, 0x0B, 0x0E, 0x0E, 0x0E,
-    0x1B, 0x1B, 0x1E, 0x1F, 0x1F, 0x20, 0x20, 0x31, 0x31, 0x33, 0x33, 0x33, 0x34, 0x35, 0x3E,
+    0x1B, 0x1B, 0x1E, 0x1F, 0x1F, 0x20, 0x20, 0x28, 0x31, 0x31, 0x33, 0x33, 0x33, 0x34, 0x35, 0x3E,
 ];
 const FUNCTIONAL_VALUES: [u8; 6] = [
     rows::STATUS_WORD,
@@ -22,6 +22,9 @@ const READ_ONLY: [u8; 12] = [0x65, 0x67, 0x80, 0x81, 0x85, 0x8A, 0x96, 0xFA, 0xF
 const WRITE_ONLY: [u8; 5] = [0xA0, 0xA7, 0xA8, 0xAA, 0xD2];
 const UNKNOWN: [u8; 15] =
     [0x10, 0x1A, 0x1D, 0x23, 0x36, 0x41, 0x63, 0x66, 0x7F, 0x8B, 0xA1, 0xC5, 0xD1, 0xD3, 0xF9];
+
+/// A set point of four characters, JOB1.
+const CHARACTERS: u32 = u32::from_be_bytes(*b"JOB1");
 
 pub struct Author<'a> {
     pub random: &'a mut Random,
@@ -61,6 +64,8 @@ impl Author<'_> {
             (rows::NODE_ADDRESS, 128),
             (rows::OFFSET_VALUE, -20_000),
             (rows::CALIBRATION_VALUE, 100_000),
+            (rows::OPERATING_MODE, 4),
+            (rows::ACKNOWLEDGEMENT_SETTINGS, 1),
             (rows::ACKNOWLEDGEMENT_SETTINGS, 1),
             (rows::ACKNOWLEDGEMENT_SETTINGS, 3),
             (rows::SYSTEM_COMMAND, 0),
@@ -167,9 +172,12 @@ impl Author<'_> {
         self.sound(READ, rows::INPUT_ERRORS, 0, number << 24 | other_bytes)
     }
 
-    fn reads(&self, asked: impl Iterator<Item = (u8, u32)>) -> Vec<u8> {
+    pub fn reads(&self, asked: impl IntoIterator<Item = (u8, u32)>) -> Vec<u8> {
         let node = self.head.number_in_force();
-        asked.flat_map(|(parameter, data)| Telegram::new(READ, node, parameter, 0, data).bytes()).collect()
+        asked
+            .into_iter()
+            .flat_map(|(parameter, data)| Telegram::new(READ, node, parameter, 0, data).bytes())
+            .collect()
     }
 
     pub fn read_all_rows(&self) -> Vec<u8> {
@@ -227,7 +235,7 @@ impl Author<'_> {
     }
 
     fn control_word(&mut self) -> u16 {
-        let bits = [(2, 50), (4, 25), (5, 40), (9, 75)];
+        let bits = [(2, 50), (4, 25), (5, 40), (6, 30), (7, 40), (9, 75), (10, 30)];
         let mut word = if self.random.chance(15) { self.random.next() as u16 } else { 0 };
         for (bit, percent) in bits {
             word &= !(1 << bit);
@@ -237,15 +245,16 @@ impl Author<'_> {
     }
 
     pub fn write_set_point_1(&mut self) -> Telegram {
-        let data = self.random.pick(&[0, 1, 1_234, u32::MAX, 0xDEAD_BEEF]);
+        let data = self.random.pick(&[0, 1, 1_234, u32::MAX, 0xDEAD_BEEF, CHARACTERS]);
         let control_word = self.control_word();
         self.sound(WRITE, rows::SET_POINT_1, control_word, data)
     }
 
     pub fn write_set_point_2(&mut self) -> Telegram {
         let data = match self.random.below(10) {
-            0 => self.random.pick(&[0, 0x7FFF_FFFF, 0x8000_0000, u32::MAX]),
+            0 => self.random.pick(&[0, 0x7FFF_FFFF, 0x8000_0000, u32::MAX, CHARACTERS]),
             1 => self.random.word(),
+            2 => self.head.set_point_2() as u32,
             _ => self.set_point_near_actual(),
         };
         let control_word = self.control_word();

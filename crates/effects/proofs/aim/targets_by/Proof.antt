@@ -18,7 +18,13 @@ targets-by-spec =
     (λ c κs. search needs)
     (λ c. search needs)
     (λ c κs. search needs)
-    (λ c. rw (c .aim-first .ensures, c .before .before .d .given .1))
-    (λ c. rw (c .settled .ensures, c .before .aim-second .ensures, c .before .before .before .d2 .given .1))
+    (λ c κs. search needs)
+    (λ c κs. search needs)
+    (λ c. search needs)
+    (λ c κs. search needs)
+    (λ c. let k = c .before .before in
+    rw (c .given .ensures, c .before .aim-first .ensures, k .before .d .given .1, k .before .before .before .is-display .ensures))
+    (λ c. let k = c .before .before .before in
+    rw (c .settled .ensures, c .before .given2 .ensures, c .before .before .aim-second .ensures, k .before .d2 .given .1, k .before .before .before .is-display .ensures))
     (λ c. rw (c .cleared .ensures, c .before .enum-told .given .1))
-    (λ c. targets-rest (c .before .args .d) _ _ _ (c .match .keys4)))
+    (λ c. targets-rest (c .before .before .args .d) _ _ _ (c .match .keys4)))

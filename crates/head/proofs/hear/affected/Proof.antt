@@ -13,8 +13,11 @@ affected-spec =
     (λ c κs. search needs)
     (λ c κs. search needs)
     (λ c κs. search needs)
+    (λ c. search needs)
+    (λ c. search needs)
     (λ c κs. search needs)
     (λ c κs. search needs)
     (λ c κs. search needs)
-    (λ c. let k = c .before .before .before .before in
-    simp (c .empty-ear .ensures, c .before .started .ensures, c .before .before .targets-by .ensures, c .before .before .before .measurement-by .ensures, k .faults-by .ensures, k .before .stored-by .ensures, k .before .before .complained .ensures, k .before .before .before .counted .ensures)))
+    (λ c κs. search needs)
+    (λ c. let t = c .before .before in let m = t .before .before in let k = m .before in
+    simp (c .empty-ear .ensures, c .before .started .ensures, t .turned .ensures, t .before .targets-by .ensures, m .measurement-by .ensures, k .faults-by .ensures, k .before .before .stored-by .ensures, k .before .before .before .complained .ensures, k .before .before .before .before .counted .ensures)))

@@ -14,6 +14,16 @@ left-spec =
     (λ c. simp (c .before .before .if1 .taken, ne-eqb _ _ (c .if2 .taken)))
     (λ c. search needs)
     (λ c κs. search needs)
-    (λ c. simp (c .calibrated .ensures, c .before .before .before .before .if1 .taken, eq-eqb _ _ (c .before .before .if2 .left), eq-eqb _ _ (c .before .if3 .taken)))
-    (λ c. simp (c .before .before .before .if1 .taken, eq-eqb _ _ (c .before .if2 .left), ne-eqb _ _ (c .if3 .left)))
+    (λ c κs. search needs)
+    (λ c κs. search needs)
+    (λ c. let l = c .before .before in let k = l .before .before in
+    rw (c .all-given .ensures, ← l .lacking .ensures, ← l .before .is-display .ensures) (simp (k .before .before .if1 .taken, eq-eqb _ _ (k .if2 .left), c .before .if3 .taken)))
+    (λ c. search needs)
+    (λ c κs. search needs)
+    (λ c. let l = c .before .before .before in let k = l .before .before in
+    rw (c .calibrated .ensures, ← l .lacking .ensures, ← l .before .is-display .ensures)
+    (simp (k .before .before .if1 .taken, eq-eqb _ _ (k .if2 .left), c .before .before .if3 .left, eq-eqb _ _ (c .before .if4 .taken))))
+    (λ c. let l = c .before .before in let k = l .before .before in
+    rw (← l .lacking .ensures, ← l .before .is-display .ensures)
+    (simp (k .before .before .if1 .taken, eq-eqb _ _ (k .if2 .left), c .before .if3 .left, ne-eqb _ _ (c .if4 .left))))
     (λ c. simp (c .if1 .left)))

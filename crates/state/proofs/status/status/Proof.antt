@@ -1,4 +1,4 @@
--- `state::status::status` meets its contract: the two sums of weights.
+-- `state::status::status` meets its contract: the sums of weights, by 28h.
 -- Assumes nothing.
 use Rattle.state.specs.Status.{statusOf}
 use borrow.Author.Needs.{needs}
@@ -10,8 +10,17 @@ unfolding statusOf
 status-spec =
     tie.close
     (tie.spec
+    (λ c. search needs)
+    (λ c κs. search needs)
     (λ c κs. search needs)
     (λ c κs. search needs)
     (λ c κs. search needs)
     (λ c. search needs)
-    (λ c. let k = c .before .before in rw (c .rest-bits .ensures .0, k .aim-bits .ensures .0, k .before .aimed .ensures)))
+    (λ c. let k = c .before in let i = k .before .before in
+    rw (← i .before .is-display .ensures, i .if1 .taken, c .rest-bits .ensures .0, k .characters .ensures, k .before .acknowledged-bits .ensures .0))
+    (λ c κs. search needs)
+    (λ c κs. search needs)
+    (λ c κs. search needs)
+    (λ c. search needs)
+    (λ c. let k = c .before .before in let i = k .before .before in
+    rw (← i .is-display .ensures, k .before .if1 .left, c .rest-bits2 .ensures .0, c .before .aim-bits .ensures .0, k .aimed .ensures)))

@@ -1,4 +1,4 @@
--- `state::status::within` meets its contract by that of `aimed`.
+-- `state::status::within` meets its contract by those of its callees.
 -- Assumes nothing.
 use Rattle.state.specs.Status.{withinOf}
 use borrow.Author.Needs.{needs}
@@ -10,5 +10,7 @@ unfolding withinOf
 within-spec =
     tie.close
     (tie.spec
+    (λ c. search needs)
     (λ c κs. search needs)
-    (λ c. rw (c .before .before .aimed .ensures)))
+    (λ c κs. search needs)
+    (λ c. let k = c .before .before in rw (k .aimed .ensures, k .before .is-display .ensures)))

@@ -480,7 +480,7 @@ mod tests {
     #[test]
     fn every_answer_is_frequent() {
         let asked = asked_in_200_scripts();
-        assert_frequent("none", 500, |asked| asked.answer == "asked", &asked);
+        assert_frequent("none", 400, |asked| asked.answer == "asked", &asked);
         for (part, least) in [(" value", 1_000), (" foreign", 500), (" collision", 100)] {
             assert_frequent(part, least, |asked| asked.answer.contains(part), &asked);
         }
@@ -537,7 +537,7 @@ mod tests {
                         .any(|(_, finding)| matches!(finding, Finding::Value(value) if is_meant(*value)))
             }
         };
-        assert_frequent("none pending", 50, value(|value| value == 0), &asked);
+        assert_frequent("none pending", 40, value(|value| value == 0), &asked);
         assert_frequent("pending", 30, value(|value| matches!(value, 0x80 | 0x81)), &asked);
         assert_frequent("of another question", 20, value(|value| value > 0x81), &asked);
         let is_error = |asked: &Asked| matches!(asked.drawn[..], [(_, Finding::Error(_))]);

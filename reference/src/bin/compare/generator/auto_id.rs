@@ -415,7 +415,7 @@ mod tests {
         steps.retain(|step| matches!(step.command, Command::Keys { .. }));
         assert_frequent("none", 3_000, |step| step.answer == "ok", &steps);
         assert_frequent("a reply", 800, |step| step.answer.starts_with("ok "), &steps);
-        for (refusal, least) in [("refused 3", 100), ("refused 5", 100), ("refused 6", 150)] {
+        for (refusal, least) in [("refused 3", 80), ("refused 5", 80), ("refused 6", 120)] {
             assert_frequent(refusal, least, |step| step.answer == refusal, &steps);
         }
     }

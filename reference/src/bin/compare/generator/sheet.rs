@@ -25,15 +25,15 @@ impl Generator {
         let Some((number, _)) = self.some_head() else {
             return self.sheet_at_no_head();
         };
-        match self.random.below(27) {
-            0..=1 => self.save_in_spaces(number),
-            2..=5 => self.swap(number),
-            6..=8 => self.load_and_restart(number),
-            9..=14 => self.load_what_is_refused(number),
-            15 => self.sheet_at_no_head(),
-            16..=17 => self.load_and_lock(number),
-            18..=19 => self.load_after_an_offer(),
-            20..=21 => self.load_near_the_set_point(number),
+        match self.random.below(30) {
+            0..=2 => self.save_in_spaces(number),
+            3..=8 => self.swap(number),
+            9..=11 => self.load_and_restart(number),
+            12..=17 => self.load_what_is_refused(number),
+            18 => self.sheet_at_no_head(),
+            19..=20 => self.load_and_lock(number),
+            21..=22 => self.load_after_an_offer(),
+            23..=24 => self.load_near_the_set_point(number),
             _ => self.load_amid(number),
         }
     }
@@ -48,7 +48,7 @@ impl Generator {
         }
     }
 
-    fn load(&mut self, head: impl std::fmt::Display, sheet: &[u8]) {
+    pub(super) fn load(&mut self, head: impl std::fmt::Display, sheet: &[u8]) {
         let line = match sheet {
             [] => format!("load {head}"),
             _ => format!("load {head} {}", hex(sheet)),
@@ -56,7 +56,7 @@ impl Generator {
         self.write_line(line);
     }
 
-    fn load_settings(&mut self, number: usize, settings: &[Setting]) {
+    pub(super) fn load_settings(&mut self, number: usize, settings: &[Setting]) {
         self.load(number, &written(settings));
     }
 
@@ -379,8 +379,8 @@ mod tests {
     fn every_answer_is_frequent() {
         let (saves, loads): (Vec<Step>, Vec<Step>) =
             steps_of_200_scripts().into_iter().partition(|step| step.is_save);
-        assert_frequent("saved", 800, |step| step.answer.starts_with("saved "), &saves);
-        for (refusal, least) in [("refused 3", 100), ("refused 14", 200)] {
+        assert_frequent("saved", 650, |step| step.answer.starts_with("saved "), &saves);
+        for (refusal, least) in [("refused 3", 80), ("refused 14", 160)] {
             assert_frequent(refusal, least, |step| step.answer == refusal, &saves);
         }
         assert_frequent("loaded", 1_500, |step| step.answer == "ok", &loads);
@@ -397,9 +397,9 @@ mod tests {
         steps.retain(|step| !step.is_save && step.answer == "ok");
         let changes = |step: &Step| stored(&step.before) != stored(&step.after);
         assert_frequent("changes", 1_200, changes, &steps);
-        assert_frequent("saved before", 300, |step| step.is_reloaded && changes(step), &steps);
+        assert_frequent("saved before", 240, |step| step.is_reloaded && changes(step), &steps);
         let is_locked = |step: &Step| step.before.as_ref().is_some_and(Head::is_locked);
-        assert_frequent("locked", 100, |step| is_locked(step) && changes(step), &steps);
+        assert_frequent("locked", 80, |step| is_locked(step) && changes(step), &steps);
         let has_gathered = |step: &Step| step.before.as_ref().is_some_and(|head| head.gathered_count() > 0);
         assert_frequent("amid a telegram", 100, has_gathered, &steps);
         let has_offer =

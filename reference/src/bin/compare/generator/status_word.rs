@@ -64,8 +64,11 @@ impl Generator {
     // A word with something to show.
 
     /// Narrow windows, a position that divisor and offset move far, and a valid set point at the edge of a
-    /// window.
+    /// window, mostly in a mode that has windows.
     pub(super) fn come_near_the_set_point(&mut self, number: usize) {
+        if self.head(number).is_alpha_numeric() && self.random.chance(80) {
+            self.leave(number);
+        }
         let head = self.head(number);
         if head.status_word() & INCREMENTAL != 0 && self.random.chance(70) {
             self.switch_incremental(number);
