@@ -137,6 +137,8 @@ struct Running {
 
 #[derive(Clone, Debug)]
 pub struct Head {
+    /// The head's own from the day it is made: no parameter and on no sheet, so that nothing changes it.
+    serial: u32,
     values: [i32; ROW_COUNT],
     number_in_force: u8,
     baud_in_force: u8,
@@ -156,11 +158,13 @@ enum Verdict {
 }
 
 impl Head {
-    /// A new head at a number that the caller has found to be 1 to 127.
-    pub fn new(node: u8) -> Head {
+    /// A new head at a number that the caller has found to be 1 to 127. Any serial will do: which are taken is known
+    /// to a line alone.
+    pub fn new(node: u8, serial: u32) -> Head {
         let mut values = ROWS.map(|row| row.default);
         values[place_of(rows::NODE_ADDRESS)] = i32::from(node);
         let mut head = Head {
+            serial,
             values,
             number_in_force: node,
             baud_in_force: 0,
@@ -175,8 +179,8 @@ impl Head {
         head
     }
 
-    pub fn factory() -> Head {
-        Head::new(FACTORY_NODE)
+    pub fn factory(serial: u32) -> Head {
+        Head::new(FACTORY_NODE, serial)
     }
 
     // What a driver or a test may ask.
@@ -240,6 +244,11 @@ impl Head {
     }
 
     // The calls.
+
+    /// The number that the head was made with.
+    pub fn serial(&self) -> u32 {
+        self.serial
+    }
 
     /// The exclusive-or of the last damaged telegram heard, whomever it was for; 0 if there was none since
     /// the restart.
@@ -819,7 +828,7 @@ mod tests {
 
     #[test]
     fn a_new_baud_rate_counts_from_the_restart_on() {
-        let mut head = Head::factory();
+        let mut head = Head::factory(4_711);
         assert_eq!((head.number_in_force(), head.baud_in_force()), (31, 1));
         head.obey(&Telegram::new(telegram::WRITE, 31, rows::BAUD_RATE, 0, 2));
         assert_eq!(head.baud_in_force(), 1);

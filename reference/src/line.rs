@@ -1,16 +1,16 @@
-//! The line: 0 to 8 heads, the calls on it and their refusals.
+//! The line: 0 to 32 heads, each with a serial of its own, the calls on it and their refusals.
 
 use crate::head::{Head, HIGHEST_MEASUREMENT};
 use crate::telegram::{Reply, TELEGRAM_LENGTH};
 
-pub const MOST_HEADS: usize = 8;
+pub const MOST_HEADS: usize = 32;
 const HIGHEST_KEY_STATE: u32 = 7;
 
 /// The refusals that a line made by calls alone, a master and a sheet can give, with the documents' numbers.
 #[derive(Clone, Copy, Debug, PartialEq, Eq)]
 pub enum Refusal {
     NodeNumber = 1,
-    NinthHead = 2,
+    ThirtyThirdHead = 2,
     HeadNumber = 3,
     Measurement = 4,
     KeyState = 5,
@@ -20,6 +20,7 @@ pub enum Refusal {
     SheetAddress = 12,
     SheetValue = 13,
     SheetSpace = 14,
+    SerialOnTheLine = 17,
 }
 
 impl Refusal {
@@ -42,16 +43,20 @@ impl Line {
         &self.heads
     }
 
-    /// Grows the line by a new head.
-    pub fn grow(&mut self, node: u32) -> Result<(), Refusal> {
+    /// Grows the line by a new head. Its node number may be that of another, as on an old machine; its serial may
+    /// not.
+    pub fn grow(&mut self, node: u32, serial: u32) -> Result<(), Refusal> {
         if self.heads.len() == MOST_HEADS {
-            return Err(Refusal::NinthHead);
+            return Err(Refusal::ThirtyThirdHead);
         }
         let node = match node {
             1..=127 => node as u8,
             _ => return Err(Refusal::NodeNumber),
         };
-        self.heads.push(Head::new(node));
+        if self.heads.iter().any(|head| head.serial() == serial) {
+            return Err(Refusal::SerialOnTheLine);
+        }
+        self.heads.push(Head::new(node, serial));
         Ok(())
     }
 
@@ -104,6 +109,11 @@ impl Line {
     pub fn power(&mut self, head: u32) -> Result<(), Refusal> {
         self.head(head)?.restart();
         Ok(())
+    }
+
+    /// The number that a head was made with.
+    pub fn serial(&self, head: u32) -> Result<u32, Refusal> {
+        Ok(self.head_as_it_is(head)?.serial())
     }
 
     /// The exclusive-or of the last damaged telegram that a head heard.

@@ -15,7 +15,7 @@ pub const HELP: &str = "\
 A line of SIKONETZ5 heads, driven by a script on standard input: one command a
 line, words separated by blanks or tabs, one line of output for each.
 
-  head NODE            grow the line by a head; the first is head 0
+  head NODE SERIAL     grow the line by a head; the first is head 0
   send TIME HEX        feed these bytes (two hex digits each), all at TIME
   ask TIME COMMAND NODE PARAMETER WORD DATA
                        build a telegram from these fields, feed its ten bytes,
@@ -46,17 +46,18 @@ word starts with # are passed over.
                        if the head has heard none since it last started
   saved HEX            the 274 bytes of the sheet
   refused N            1 node number not 1 to 127   4 measurement out of range
-                       2 ninth head                 5 key state above 7
+                       2 thirty-third head          5 key state above 7
                        3 no such head               6 space under ten bytes
                        10 command above 2 or node above 127
                        11 malformed sheet           13 value out of its row
                        12 address not among the 39  14 space under 274 bytes
+                       17 serial already on the line
   error at line N      the line is none of these commands
 ";
 
 #[derive(Clone, Debug, PartialEq, Eq)]
 pub enum Command {
-    Head { node: u32 },
+    Head { node: u32, serial: u32 },
     Send { time: u32, bytes: Vec<u8> },
     Ask { time: u32, question: Question },
     Tick { time: u32 },
@@ -93,7 +94,7 @@ pub fn meaning(line: &[u8]) -> Meaning {
 
 fn command(words: &[&[u8]]) -> Option<Command> {
     match *words {
-        [b"head", node] => Some(Command::Head { node: unsigned(node)? }),
+        [b"head", node, serial] => Some(Command::Head { node: unsigned(node)?, serial: unsigned(serial)? }),
         [b"send", time, hex] => Some(Command::Send { time: unsigned(time)?, bytes: bytes(hex)? }),
         [b"ask", time, ref fields @ ..] => {
             Some(Command::Ask { time: unsigned(time)?, question: question(fields)? })
@@ -208,7 +209,7 @@ impl Simulation {
 
     fn obey(&mut self, command: Command) -> String {
         let outcome = match command {
-            Command::Head { node } => self.line.grow(node),
+            Command::Head { node, serial } => self.line.grow(node, serial),
             Command::Send { time, bytes } => return self.send(time, &bytes),
             Command::Ask { time, question } => return self.ask(time, &question),
             Command::Tick { time } => {
@@ -362,8 +363,10 @@ mod tests {
             control_word,
             data,
         };
-        let commands: [(&[u8], Command); 18] = [
-            (b"head 31", Command::Head { node: 31 }),
+        let commands: [(&[u8], Command); 20] = [
+            (b"head 31 4711", Command::Head { node: 31, serial: 4_711 }),
+            (b"head 0 4294967295", Command::Head { node: 0, serial: u32::MAX }),
+            (b" head\t4294967295  0000000000000\r", Command::Head { node: u32::MAX, serial: 0 }),
             (b"send 7 00fFA0", Command::Send { time: 7, bytes: vec![0x00, 0xFF, 0xA0] }),
             (b"ask 7 0 31 32 0 5", Command::Ask { time: 7, question: fields(0, 31, 32, 0, 5) }),
             (
@@ -395,16 +398,19 @@ mod tests {
 
     #[test]
     fn blank_lines_and_comments_are_passed_over() {
-        for line in [&b""[..], b"\r", b" \t ", b"#", b"#send", b"  # head 1", b"\t#\xFF\x00"] {
+        for line in [&b""[..], b"\r", b" \t ", b"#", b"#send", b"  # head 1 2", b"\t#\xFF\x00"] {
             assert_eq!(meaning(line), Meaning::PassedOver);
         }
     }
 
     #[test]
     fn what_is_no_command_is_an_error() {
-        let lines = b"heads 1|HEAD 1|head|head 1 2|head -1|head +1|head 1a|head 0x1|head 4294967296|head 1#|\
-            head 99999999999999999999|send 0|send 0 0|send 0 000|send 0 0G|send 0 00 00|send 0 0x00|\
-            send 4294967296 00|ask|ask 0|ask 0 0|ask 0 0 31|ask 0 0 31 32|ask 0 0 31 32 0|ask 0 0 31 32 0 0 0|\
+        let lines = b"heads 1 2|HEAD 1 2|head|head 1|head 31|head 1 2 3|head 1 2 #|head -1 2|head +1 2|\
+            head -0 2|head 1a 2|head 0x1 2|head 4294967296 2|head 1# 2|head 99999999999999999999 2|head 1 -2|\
+            head 1 +2|head 1 -0|head 1 2a|head 1 0x2|head 1 4294967296|head 1 4294967297|\
+            head 1 18446744073709551616|head 1 2#|head 1,2|head 1 2,|head1 2|send 0|send 0 0|send 0 000|\
+            send 0 0G|send 0 00 00|send 0 0x00|send 4294967296 00|ask|ask 0|ask 0 0|ask 0 0 31|\
+            ask 0 0 31 32|ask 0 0 31 32 0|ask 0 0 31 32 0 0 0|\
             ask 4294967296 0 31 32 0 0|ask 0 256 31 32 0 0|ask 0 0 256 32 0 0|ask 0 0 31 256 0 0|\
             ask 0 0 31 32 65536 0|ask 0 0 31 32 0 4294967296|ask -0 0 31 32 0 0|ask 0 -0 31 32 0 0|\
             ask 0 0 -31 32 0 0|ask 0 0 31 -32 0 0|ask 0 0 31 32 -1 0|ask 0 0 31 32 0 -1|ask 0 0 31 32 0 -0|\
@@ -417,7 +423,7 @@ mod tests {
             load|load 0 0|load 0 000|load 0 0G|load 0 00 00|load 0 0x00|load 0 #|load -0 00|load -0|load 00 -0|\
             load 4294967296|load 4294967296 00|load x 00|LOAD 0|loads 0 00|load0 00|\
             space 1025|space 4294967295|space 65536|space -1|space|space 10 10|\
-            head 1\r\r|head\x0B1|\xFF\x00";
+            head 1 2\r\r|head\x0B1 2|head 1\x0B2|\xFF\x00";
         for line in lines.split(|&byte| byte == b'|') {
             assert_eq!(meaning(line), Meaning::Error, "{}", line.escape_ascii());
         }
@@ -434,14 +440,14 @@ mod tests {
             (4_098, "", "error at line 1\n"),
             (60_000, "\r\n", "error at line 1\n"),
         ] {
-            let script = format!("{:<length$}{ending}", "head 1");
+            let script = format!("{:<length$}{ending}", "head 1 2");
             assert_eq!(output_of(script.as_bytes()), answer, "{length} bytes");
         }
     }
 
     #[test]
     fn a_comment_that_is_too_long_is_an_error() {
-        let script = format!("#{}\nhead 0\n", "-".repeat(4_096));
+        let script = format!("#{}\nhead 0 2\n", "-".repeat(4_096));
         assert_eq!(output_of(script.as_bytes()), "error at line 1\nrefused 1\n");
     }
 
@@ -450,20 +456,20 @@ mod tests {
         assert_eq!(output_of(b"\n# two\r\nthree\n\nfive"), "error at line 3\nerror at line 5\n");
         assert_eq!(output_of(b""), "");
         assert_eq!(output_of(b"\n"), "");
-        assert_eq!(output_of(b"head 1\r"), "ok\n");
+        assert_eq!(output_of(b"head 1 2\r"), "ok\n");
     }
 
     #[test]
     fn an_error_changes_nothing_and_the_script_goes_on() {
         assert_eq!(
-            output_of(b"head 31\nspace 1025\nsend 0 001F200000000000003F\n"),
+            output_of(b"head 31 4711\nspace 1025\nsend 0 001F200000000000003F\n"),
             "ok\nerror at line 2\nsent 001F200000000000053A\n"
         );
     }
 
     #[test]
     fn long_lines_in_small_pieces_read_the_same() {
-        let script = format!("head 31\n{}\nsend 0 001F200000000000003F\n", "x".repeat(9_000));
+        let script = format!("head 31 4711\n{}\nsend 0 001F200000000000003F\n", "x".repeat(9_000));
         let mut output = Vec::new();
         run(io::BufReader::with_capacity(7, script.as_bytes()), &mut output).unwrap();
         assert_eq!(output, b"ok\nerror at line 2\nsent 001F200000000000053A\n");

@@ -387,7 +387,7 @@ fn an_offer_has_no_answer_and_its_refusal_has_one() {
     for (fields, code) in [("1 12 210 0 5", "0085"), ("1 12 210 0 0", "0085"), ("0 12 210 0 5", "0284")] {
         assert_eq!(desk.ask(fields), format!("error {code}"), "{fields}");
     }
-    desk.ok("head 31");
+    desk.ok("head 31 4711");
     for (fields, code) in [("1 31 210 0 0", "0182"), ("1 31 210 0 32", "0282"), ("0 31 210 0 5", "0284")] {
         assert_eq!(desk.ask(fields), format!("error {code}"), "{fields}");
     }
@@ -399,7 +399,7 @@ fn two_or_more_replies_at_once_are_a_collision() {
     assert_eq!(desk.ask("0 31 32 0 0"), "collision 2");
     assert_eq!(desk.ask("1 31 4 0 90"), "collision 2");
     assert_eq!(desk.ask("0 12 32 0 0"), "value 5");
-    desk.ok("head 31");
+    desk.ok("head 31 4711");
     // The heads still act.
     assert_eq!(desk.ask("1 31 0 0 12"), "collision 3");
     assert_eq!(desk.ask("2 0 160 0 9"), "");
@@ -602,7 +602,7 @@ fn one_question_may_draw_several_replies() {
     // Two of three at the eighth byte, and the third, which is new.
     let mut desk = Desk::with_heads(&[31, 31]);
     assert_eq!(desk.send("001F"), "");
-    desk.ok("head 31");
+    desk.ok("head 31 4711");
     assert_eq!(desk.ask("0 31 99 0 0"), "collision 2 error 0083");
 }
 
@@ -718,7 +718,7 @@ fn what_a_head_sends_is_what_is_read() {
 #[test]
 fn the_calls_of_master_and_line() {
     let mut line = Line::new();
-    line.grow(31).unwrap();
+    line.grow(31, 4_711).unwrap();
     let asked = question(READ, 31, 0xFD);
     let telegram = asked.telegram().unwrap();
     assert_eq!(telegram, Telegram::new(READ, 31, 0xFD, 0, 0).bytes());

@@ -636,7 +636,7 @@ fn refusal_6_after_3_and_5() {
     let mut desk = Desk::with_heads(&[]);
     desk.ok("space 9");
     assert_eq!(desk.line("keys 0 0"), "refused 3");
-    desk.ok("head 31");
+    desk.ok("head 31 4711");
     for size in [0, 1, 9] {
         desk.ok(&format!("space {size}"));
         for (line, answer) in [
@@ -675,7 +675,7 @@ fn a_refused_key_call_changes_nothing() {
 #[test]
 fn the_space_of_a_key_call() {
     let mut line = Line::new();
-    line.grow(31).unwrap();
+    line.grow(31, 4_711).unwrap();
     let mut space = [0xEE; 12];
     assert_eq!(line.keys(0, 2, &mut space), Ok(false));
     for byte in [0x01, 0x1F, 0xD2, 0, 0, 0, 0, 0, 5, 0xC9] {
@@ -696,7 +696,7 @@ fn the_space_of_a_key_call() {
 /// A head alone gives its reply, and keeps no offer.
 #[test]
 fn the_call_of_a_head() {
-    let mut head = Head::factory();
+    let mut head = Head::factory(4_711);
     assert_eq!(head.number_on_offer(), None);
     for byte in [0x01, 0x1F, 0xD2, 0, 0, 0, 0, 0, 5, 0xC9] {
         assert_eq!(head.byte(0, byte), None);

@@ -40,9 +40,14 @@ fn the_display() {
 }
 
 #[test]
+fn the_serials() {
+    assert_answers(include_bytes!("../../tests/serial.script"), include_str!("../../tests/serial.answers"));
+}
+
+#[test]
 fn the_cases_of_bench() {
     let bytes = include_bytes!("../../crates/bench/stdin");
-    let mut head = Head::factory();
+    let mut head = Head::factory(4_711);
     let replies = bytes.iter().filter_map(|&byte| head.byte(0, byte));
     let answers: String = replies.map(|reply| hex(&reply) + "\n").collect();
     assert_same_lines(&answers, include_str!("../../crates/bench/stdout"));

@@ -8,20 +8,33 @@ use reference::line::{Line, Refusal};
 fn refusal_1_node_number() {
     let mut desk = Desk::with_heads(&[]);
     for node in ["0", "128", "300", "4294967295"] {
-        assert_eq!(desk.line(&format!("head {node}")), "refused 1");
+        assert_eq!(desk.line(&format!("head {node} 4711")), "refused 1");
     }
     assert_eq!(desk.line("power 0"), "refused 3");
-    desk.ok("head 1");
-    desk.ok("head 127");
+    desk.ok("head 1 4711");
+    desk.ok("head 127 4712");
 }
 
 #[test]
-fn refusal_2_ninth_head_goes_before_1() {
-    let mut desk = Desk::with_heads(&[1, 2, 3, 4, 5, 6, 7, 8]);
-    assert_eq!(desk.line("head 9"), "refused 2");
-    assert_eq!(desk.line("head 0"), "refused 2");
-    assert_eq!(desk.line("power 8"), "refused 3");
-    desk.ok("power 7");
+fn refusal_2_thirty_third_head_goes_before_1_and_17() {
+    let nodes: Vec<u32> = (1..=32).collect();
+    let mut desk = Desk::with_heads(&nodes);
+    // A serial of its own, that of the last head, and that with a node number that is none.
+    for line in ["head 33 4711", "head 33 32", "head 0 32", "head 0 4711"] {
+        assert_eq!(desk.line(line), "refused 2", "{line}");
+    }
+    assert_eq!(desk.line("power 32"), "refused 3");
+    desk.ok("power 31");
+}
+
+#[test]
+fn refusal_17_serial_goes_after_1() {
+    let mut desk = Desk::with_heads(&[31, 12]);
+    assert_eq!(desk.line("head 5 2"), "refused 17");
+    assert_eq!(desk.line("head 0 2"), "refused 1");
+    assert_eq!(desk.line("head 128 1"), "refused 1");
+    assert_eq!(desk.line("power 2"), "refused 3");
+    desk.ok("head 5 3");
 }
 
 #[test]
@@ -58,7 +71,7 @@ fn refusal_6_reply_space_at_any_byte() {
     let mut desk = Desk::with_heads(&[]);
     desk.ok("space 9");
     assert_eq!(desk.line("send 0 00"), "refused 6");
-    desk.ok("head 31");
+    desk.ok("head 31 4711");
     desk.ok("space 0");
     assert_eq!(desk.line("send 0 001F2000"), "refused 6");
     desk.ok("space 10");
@@ -83,8 +96,8 @@ fn refusal_10_command_or_node_goes_before_6() {
 #[test]
 fn the_space_past_a_reply_and_under_a_collision_is_unchanged() {
     let mut line = Line::new();
-    line.grow(31).unwrap();
-    line.grow(12).unwrap();
+    line.grow(31, 1).unwrap();
+    line.grow(12, 2).unwrap();
     let read_of_31 = [0x00, 0x1F, 0x20, 0, 0, 0, 0, 0, 0, 0x3F];
     let mut space = [0xEE; 12];
     for &byte in &read_of_31[..9] {
@@ -94,7 +107,7 @@ fn the_space_past_a_reply_and_under_a_collision_is_unchanged() {
     assert_eq!(line.byte(0, 0x3F, &mut space), Ok(1));
     assert_eq!(space, [0x00, 0x1F, 0x20, 0, 0, 0, 0, 0, 5, 0x3A, 0xEE, 0xEE]);
 
-    line.grow(31).unwrap();
+    line.grow(31, 3).unwrap();
     let mut space = [0xEE; 12];
     for &byte in &read_of_31[..9] {
         assert_eq!(line.byte(0, byte, &mut space), Ok(0));

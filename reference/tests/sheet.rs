@@ -459,7 +459,7 @@ fn a_loaded_number_is_in_force_from_the_restart_on() {
 #[test]
 fn a_loaded_baud_rate_is_in_force_from_the_restart_on() {
     let mut line = Line::new();
-    line.grow(31).unwrap();
+    line.grow(31, 4_711).unwrap();
     line.load(0, &bytes("0101000400000002")).unwrap();
     assert_eq!((line.heads()[0].value(0x01), line.heads()[0].baud_in_force()), (2, 1));
     line.power(0).unwrap();
@@ -653,7 +653,7 @@ fn the_stored_number_is_written_not_that_in_force() {
 #[test]
 fn only_the_first_274_bytes_of_the_space_are_written() {
     let mut line = Line::new();
-    line.grow(31).unwrap();
+    line.grow(31, 4_711).unwrap();
     for size in [274, 275, 300, 1_024] {
         let mut space = vec![0xEE; size];
         assert_eq!(line.save(0, &mut space), Ok(()));
@@ -665,7 +665,7 @@ fn only_the_first_274_bytes_of_the_space_are_written() {
 #[test]
 fn nothing_is_written_into_a_space_that_is_too_short() {
     let mut line = Line::new();
-    line.grow(31).unwrap();
+    line.grow(31, 4_711).unwrap();
     for size in [0, 9, 10, 273] {
         let mut space = vec![0xEE; size];
         assert_eq!(line.save(0, &mut space), Err(Refusal::SheetSpace));
@@ -704,8 +704,8 @@ fn a_locked_head_in_the_midst_of_a_telegram_is_saved() {
 #[test]
 fn writing_then_loading_gives_equal_values() {
     let mut line = Line::new();
-    line.grow(31).unwrap();
-    line.grow(12).unwrap();
+    line.grow(31, 4_711).unwrap();
+    line.grow(12, 4_712).unwrap();
     let sheets = [whole(|row| row.2), whole(|row| row.1), whole(|row| row.2 - row.2 % 2)];
     for first in &sheets {
         for second in &sheets {

@@ -432,7 +432,7 @@ fn one_for_another_node_raises_it_for_the_next_reply() {
 fn each_head_shows_its_own_word() {
     let mut desk = Desk::with_heads(&[31]);
     two_damaged(&mut desk);
-    desk.ok("head 12");
+    desk.ok("head 12 4711");
     // 3E for 3F at 31: the third. At 12 then 2D for 2C: its second, and the fourth of the head at 31.
     assert_eq!(desk.send("001F200000000000003E"), "001FFD008000000080E2");
     // 0C ^ FD ^ 80.

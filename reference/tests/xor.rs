@@ -203,9 +203,9 @@ fn no_reply_space_is_needed_and_bytes_refused_are_not_heard() {
 fn refusal_3_for_a_head_that_is_not_there() {
     let mut desk = Desk::with_heads(&[]);
     assert_eq!(desk.line("xor 0"), "refused 3");
-    desk.ok("head 31");
+    desk.ok("head 31 4711");
     assert_eq!(desk.line("xor 0"), "xor 00");
-    for head in ["1", "8", "255", "256", "4294967295"] {
+    for head in ["1", "8", "31", "32", "255", "256", "4294967295"] {
         assert_eq!(desk.line(&format!("xor {head}")), "refused 3", "{head}");
     }
 }
@@ -225,9 +225,9 @@ fn what_is_no_head_number_is_an_error() {
 #[test]
 fn the_calls_of_head_and_line() {
     let damaged = [0x00, 0x1F, 0x20, 0, 0, 0, 0, 0, 0, 0x3E];
-    let mut head = Head::factory();
+    let mut head = Head::factory(4_711);
     let mut line = Line::new();
-    line.grow(12).unwrap();
+    line.grow(12, 4_711).unwrap();
     assert_eq!((head.bits_hit(), line.bits_hit(0)), (0, Ok(0)));
     for byte in damaged {
         head.byte(0, byte);

@@ -92,7 +92,7 @@ fn turn(h: Head) -> Bench {
 // A proved loop has to end, and nothing says that the input does: the turns count down from a number that no run uses up.
 fn main() {
     let mut b = Bench {
-        head: calls::factory(),
+        head: calls::factory(0),
         going: true,
     };
     let mut turns = u64::MAX;

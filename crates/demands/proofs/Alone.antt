@@ -313,11 +313,11 @@ module _ (h : Head) (s : ℕ) (space : List ℕ) (k : Taken h space) (few : s �
       rw (keys-taken .0, keys-taken .1, keyed-adopts h s e) (adopted h s (k .well), refl, announced h space k)
 
 -- ---- a new head
-fresh : (node : ℕ) → New (freshOf node) node
+fresh : (node serial : ℕ) → New (freshOf node serial) node
 unfolding freshOf restartedOf restartedStored restartedFaults restartedMeasurement noTargets stopped emptyEar emptyList
-fresh node =
-    record { restarted = restarted (freshOf node); memory = refl; unlocked = refl; m = refl; zero = refl; adopted = refl; values = fresh-values node }
+fresh node serial =
+    record { restarted = restarted (freshOf node serial); memory = refl; unlocked = refl; m = refl; zero = refl; adopted = refl; values = fresh-values node }
 
-pub makes : (node : ℕ) → madeOf node .answer ≡ answer.Done → New (madeOf node .head) node
+pub makes : (node serial : ℕ) → madeOf node serial .answer ≡ answer.Done → New (madeOf node serial .head) node
 unfolding madeOf
-makes node = taken (λ c. New (c .head) node) (nodeFits node) _ _ (λ e. cc) (λ _. fresh node)
+makes node serial = taken (λ c. New (c .head) node) (nodeFits node) _ _ (λ e. cc) (λ _. fresh node serial)

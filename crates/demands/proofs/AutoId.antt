@@ -44,7 +44,7 @@ use Rattle.head.proofs.Refused.{refused, unheeded-only}
 use Rattle.line.specs.Calls.{keysOf, keysSpaceOf}
 use Rattle.line.proofs.Theorems.{keys-one}
 use Rattle.demands.specs.Calls.{Calls, _▸_, keys, Bytes}
-use Rattle.demands.specs.Past.{writes, casts, lockable, offerable, accepted, withdrawn, adopts, adopting, pressing, pressed, asked, grown, change, look, next, account, count, entry, value, inForce}
+use Rattle.demands.specs.Past.{writes, casts, lockable, offerable, accepted, withdrawn, adopts, adopting, pressing, pressed, asked, grown, change, look, next, account, count, serials, entry, value, inForce}
 use Rattle.demands.specs.Run.{product, after, built, runs, run, headIn}
 use Rattle.demands.specs.Alone as alone
 use Rattle.demands.specs.Alone.{Taken, Announced}
@@ -231,7 +231,7 @@ module _ (cs : Calls) (k s n : ℕ) (a : TakenAt cs k s n) where
   abbrev ds : Calls
   ds = cs ▸ keys k s n
 
-  pressed-is : change (keys k s n) (count cs) k (entry cs k) ≡ cond (adoptsAt cs k s) (adopting (offerAt cs k)) (pressing s)
+  pressed-is : change (keys k s n) (count cs) (serials cs) k (entry cs k) ≡ cond (adoptsAt cs k s) (adopting (offerAt cs k)) (pressing s)
   unfolding change pressed
   pressed-is = rw (lt-ltb k (count cs) (a .there), eq-eqb k k refl, le-leb s 7 (a .state), le-leb 10 n (a .room))
 

@@ -1,6 +1,5 @@
 -- Demand 2, proved: its sentences together.
 -- Assumes nothing.
-use Prim.Native.Nat.{_≤_}
 use native.Mathlib.Omega.{arith}
 use mathlib.Core.Path.{refl}
 use lib.Dec.{ltb}
@@ -16,7 +15,7 @@ use Rattle.demands.proofs.Answers.{gathers, obeys, answers, keeps-silen
 use Rattle.demands.proofs.Every.{every}
 use Rattle.demands.proofs.Bits.{bits}
 use Rattle.demands.proofs.Alone.{makes, powers, ticks, measures, presses, adopting}
-use Rattle.demands.proofs.Lines.{line-count, line-heads, line-counts, line-lays-not, line-silent, line-one, line-ticks, line-ticked, line-asks, line-presses, line-grows, shows, line-shows}
+use Rattle.demands.proofs.Lines.{line-count, line-heads, line-counts, line-lays-not, line-silent, line-one, line-ticks, line-ticked, line-asks, line-presses, line-grows, shows, line-shows, tells, line-tells}
 
 pub demand2 : Demand2 product
 demand2 =
@@ -46,6 +45,8 @@ demand2 =
       line-ticks = λ l t f. (line-ticks l f t, line-ticked l f t .0, line-ticked l f t .1);
       line-asks = λ l i a f p. line-asks l f i a p;
       line-presses = λ l i s space f p. line-presses l f i s space p;
-      line-grows = λ l node f p. line-grows l f node p;
+      line-grows = λ l node serial f p u. line-grows l f node serial p u;
       line-shows = λ l i f p. line-shows l f i p;
+      tells = tells;
+      line-tells = λ l i f p. line-tells l f i p;
     }

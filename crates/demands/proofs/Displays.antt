@@ -44,7 +44,7 @@ use Rattle.head.proofs.Asked.{called-is}
 use Rattle.head.proofs.Keeps.{taken-stored}
 use Rattle.head.proofs.Tests.{either}
 use Rattle.demands.specs.Calls.{Ask, measure, power, load, Call, newHead, byte, tick, named, keys, Calls, _▸_}
-use Rattle.demands.specs.Past.{accepted, mayAdd, grown, room, makes, names, account, count, value}
+use Rattle.demands.specs.Past.{accepted, mayAdd, grown, room, makes, names, account, count, serials, value}
 use Rattle.demands.specs.Run.{headIn, product, aloneOf}
 use Rattle.demands.specs.Acts.{actOf, Acted}
 use Rattle.demands.specs.Alone.{Taken, setting, displays, stays, newly, keyGives, Keyed}
@@ -346,21 +346,21 @@ ask-alone : (h : Head) (a : alone.Ask) → Steps h (alone.called a h .head)
 ask-alone h a = rw (called-is a h) (either (λ (c : Called). Steps h (c .head)) (head.refusedWith h) _ ((wellformedOf h, Malformed) ∷ alone.own a) (λ why. idle h) (λ _. ask-steps a h))
 
 -- ---- one call on a line, at a head that it did not make
-call-steps : (c : Call) (n k : ℕ) (h : Head) → k < n → Steps h (headBy c n k h)
+call-steps : (c : Call) (n : ℕ) (ss : List ℕ) (k : ℕ) (h : Head) → k < n → Steps h (headBy c n ss k h)
 unfolding headBy askedOf keyedBy
-call-steps (newHead node) n k h lt = rw (ne-eqb k n (λ e. omega arith), and-false (mayAdd n node)) (idle h)
-call-steps (byte b t s) n k h lt = go (room s)
+call-steps (newHead node serial) n ss k h lt = rw (ne-eqb k n (λ e. omega arith), and-false (mayAdd n ss node serial)) (idle h)
+call-steps (byte b t s) n ss k h lt = go (room s)
   where
     go : (x : Bool) → Steps h (cond x (stepOf h b t .head) h)
     go true = byte-steps h b t
     go false = idle h
-call-steps (tick t) n k h lt = tick-steps h t
-call-steps (named j a) n k h lt = go (names n j k)
+call-steps (tick t) n ss k h lt = tick-steps h t
+call-steps (named j a) n ss k h lt = go (names n j k)
   where
     go : (x : Bool) → Steps h (cond x (askedOf a h) h)
     go true = either (Steps h) (λ why. h) _ (alone.own (aloneOf a)) (λ why. idle h) (λ _. ask-steps (aloneOf a) h)
     go false = idle h
-call-steps (keys j s r) n k h lt = go (names n j k) (leb s 7 && room r)
+call-steps (keys j s r) n ss k h lt = go (names n j k) (leb s 7 && room r)
   where
     go : (x y : Bool) → Steps h (cond x (cond y (keyedOf h s .head) h) h)
     go true true = keys-steps h s
@@ -371,13 +371,13 @@ call-steps (keys j s r) n k h lt = go (names n j k) (leb s 7 && room r)
 abbrev Held : Calls → ℕ → Type 0
 Held cs k = Kept (headIn cs k)
 
-after-steps : (cs : Calls) (c : Call) (k : ℕ) → k < grown c (count cs) → k < count cs → Steps (headIn cs k) (headIn (cs ▸ c) k)
-after-steps cs c k lt old = subst (Steps (headIn cs k)) (sym (seen cs c k lt)) (call-steps c (count cs) k (headIn cs k) old)
+after-steps : (cs : Calls) (c : Call) (k : ℕ) → k < grown c (count cs) (serials cs) → k < count cs → Steps (headIn cs k) (headIn (cs ▸ c) k)
+after-steps cs c k lt old = subst (Steps (headIn cs k)) (sym (seen cs c k lt)) (call-steps c (count cs) (serials cs) k (headIn cs k) old)
 
-new-held : (cs : Calls) (node k : ℕ) → k < grown (newHead node) (count cs) → makes (count cs) node k ≡ true → Held (cs ▸ newHead node) k
+new-held : (cs : Calls) (node serial k : ℕ) → k < grown (newHead node serial) (count cs) (serials cs) → makes (count cs) (serials cs) node serial k ≡ true → Held (cs ▸ newHead node serial) k
 unfolding headBy freshOf
-new-held cs node k lt e =
-    subst Kept (sym (seen cs (newHead node) k lt)) (rw e (bare-sound (restarted-bare _)))
+new-held cs node serial k lt e =
+    subst Kept (sym (seen cs (newHead node serial) k lt)) (rw e (bare-sound (restarted-bare _)))
 
 held : (cs : Calls) (k : ℕ) → k < count cs → Held cs k
 held = of-heads Held (λ cs c k lt old s. after-steps cs c k lt old .sound s) new-held
@@ -387,13 +387,13 @@ shown : (cs : Calls) (k : ℕ) → k < count cs → displays (headIn cs k) ≡ d
 shown cs k lt = ap (λ (v : ℕ). eqb v 3) (sim cs k lt .vals-are 23 (omega arith))
 
 -- no call takes a head away
-more : (c : Call) (n k : ℕ) → k < n → k < grown c n
+pub more : (c : Call) (n : ℕ) (ss : List ℕ) (k : ℕ) → k < n → k < grown c n ss
 unfolding grown
-more (newHead node) n k lt = elim (mayAdd n node) as (λ b. k < cond b (suc n) n) [ true ↦ omega arith | false ↦ lt ]
-more (byte b t s) n k lt = lt
-more (tick t) n k lt = lt
-more (named j a) n k lt = lt
-more (keys j s r) n k lt = lt
+more (newHead node serial) n ss k lt = elim (mayAdd n ss node serial) as (λ b. k < cond b (suc n) n) [ true ↦ omega arith | false ↦ lt ]
+more (byte b t s) n ss k lt = lt
+more (tick t) n ss k lt = lt
+more (named j a) n ss k lt = lt
+more (keys j s r) n ss k lt = lt
 
 differ : (x y : Bool) → x ≢ y → cond x y (not y) ≡ false
 differ true true n = absurd (n refl)
@@ -404,7 +404,7 @@ differ false false n = absurd (n refl)
 turning : (cs : Calls) (c : Call) (k : ℕ) → k < count cs → displaying cs k ≢ displaying (cs ▸ c) k → Turns (headIn cs k .targets) (headIn (cs ▸ c) k .targets)
 unfolding account
 turning cs c k lt n =
-    let there = more c (count cs) k lt in
+    let there = more c (count cs) (serials cs) k lt in
     after-steps cs c k there lt .turns (rw (shown cs k lt, shown (cs ▸ c) k there) (differ (displaying cs k) (displaying (cs ▸ c) k) n))
 
 -- ---- a set point's write
@@ -453,10 +453,10 @@ unfolding differenceOf
 difference-same vs g s mode = rw (view-same vs g mode, other-place vs 28 mode (λ e. omega arith))
 
 -- ---- of a head alone
-made-kept : (node : ℕ) → Kept (head.madeOf node .head)
+made-kept : (node serial : ℕ) → Kept (head.madeOf node serial .head)
 unfolding head.madeOf head.factoryOf freshOf
-made-kept node =
-    elim (head.nodeFits node) as (λ b. Kept (cond {A = Called} b (head.doneWith (freshOf node)) (head.refusedWith (freshOf 31) Node) .head))
+made-kept node serial =
+    elim (head.nodeFits node) as (λ b. Kept (cond {A = Called} b (head.doneWith (freshOf node serial)) (head.refusedWith (freshOf 31 serial) Node) .head))
     [ true ↦ bare-sound (restarted-bare _) | false ↦ bare-sound (restarted-bare _) ]
 
 word-told : (ten : List ℕ) → fieldsOf ten .word ≡ getD ten 3 0 * 256 + getD ten 4 0

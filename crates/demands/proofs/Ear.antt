@@ -21,7 +21,7 @@ use Rattle.head.specs.Hear.{elapsedOf, keptEar, oneMore, gatheredOf, standingOf
 use Rattle.head.proofs.Again.{told-ear}
 use Rattle.demands.specs.Past as past
 use Rattle.demands.specs.Calls.{Call, Calls, start, _▸_}
-use Rattle.demands.specs.Past.{since, gather, earBy, noBytes, change, account, count, entry}
+use Rattle.demands.specs.Past.{since, gather, earBy, noBytes, change, account, count, serials, entry}
 
 -- the bytes that stand gathered at the head are those of the account, the last of which came when it says
 pub record Gathered (h : Head) (g : past.Ear) : Type 0 where
@@ -187,5 +187,5 @@ pub ear-all : (P : Calls → List ℕ → Type 0) → ((cs : Calls) → P cs [])
 unfolding account past.next
 ear-all P none more start k = none start
 ear-all P none more (cs ▸ c) k =
-    elim (change c (count cs) k (entry cs k) .restarts) as (λ x. P (cs ▸ c) (cond x noBytes (earBy c (entry cs k .ear)) .bytes))
+    elim (change c (count cs) (serials cs) k (entry cs k) .restarts) as (λ x. P (cs ▸ c) (cond x noBytes (earBy c (entry cs k .ear)) .bytes))
     [ true ↦ none (cs ▸ c) | false ↦ more cs c (entry cs k .ear) (ear-all P none more cs k) ]

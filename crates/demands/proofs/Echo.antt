@@ -29,7 +29,7 @@ hearing-bytes cs (b ∷ bs) p e = let k = and-eq-true-iff (ltb b 256) _ .0 e in 
 
 -- ---- a head at 31 hears a write of 04h 7, and one of 04h 9: the account has the second value, and the machine reads back the first
 abbrev first : Calls
-first = hearing (start ▸ newHead 31) (split 10 0x011F040000000000071D)
+first = hearing (start ▸ newHead 31 4711) (split 10 0x011F040000000000071D)
 
 abbrev both : Calls
 both = hearing first (split 10 0x011F0400000000000913)
@@ -61,7 +61,7 @@ same-head e = cc
 pub echoing-fails : Demand3 echoing → ⊥
 echoing-fails d =
     let one : 0 < count both = rw (the-account .2) (omega arith) in
-    let h = d .holds both 0 4 (hearing-bytes first (split 10 0x011F0400000000000913) (hearing-bytes (start ▸ newHead 31) (split 10 0x011F040000000000071D) (tt, tt) refl) refl) one (omega arith) in
+    let h = d .holds both 0 4 (hearing-bytes first (split 10 0x011F0400000000000913) (hearing-bytes (start ▸ newHead 31 4711) (split 10 0x011F040000000000071D) (tt, tt) refl) refl) one (omega arith) in
     let back : ReadsBack echoing (headAfter echoing both 0) 31 4 9 = rw (the-account .0, the-account .1) at (h .now) in
     let r = back .reads-back (λ i. 0) 0 0 (replicate 10 0) steady (omega arith) in
     let is : r .0 ≡ split 10 0x001F040000000000071C = same-head (sym the-reply ∙ rw fourth at (r .1)) in
@@ -70,7 +70,7 @@ echoing-fails d =
 
 -- ---- a head at 31 hears a write of 00h 12: 31 stays in force
 abbrev twelve : Calls
-twelve = hearing (start ▸ newHead 31) (split 10 0x011F0000000000000C12)
+twelve = hearing (start ▸ newHead 31 4711) (split 10 0x011F0000000000000C12)
 
 still-31 : (inForce twelve 0 ≡ 31) × (count twelve ≡ 1) × (headAfter (machineOf hasty) twelve 0 .stored .number ≡ 12)
 unfolding computing

@@ -30,7 +30,7 @@ use Rattle.line.specs.Calls.{lastHitOf}
 use Rattle.line.proofs.Theorems.{well-at}
 use Rattle.head.specs.Calls.{loadedOf}
 use Rattle.demands.specs.Calls.{Ask, measure, power, load, Call, newHead, byte, tick, named, keys, Calls, _▸_}
-use Rattle.demands.specs.Past.{Entry, grown, room, gather, making, nothing, locked, telling, hearing, storing, loadable, loaded, asked, adopts, adopting, pressing, pressed, makes, names, change, look, count, entry}
+use Rattle.demands.specs.Past.{Entry, grown, room, gather, making, nothing, locked, telling, hearing, storing, loadable, loaded, asked, adopts, adopting, pressing, pressed, makes, names, change, look, count, serials, entry}
 use Rattle.demands.specs.Run.{run, headIn, product}
 use Rattle.demands.specs.Hits.{Shown, damage, hits, lastHit, Hits, AllSeen, cases}
 use Rattle.demands.proofs.Computing.{computing}
@@ -104,31 +104,31 @@ module _ (h : Head) (e : Entry) (A : Is h e) where
       go true false p = up-kept h s (sym p)
       go false y p = refl
 
-  step-kept : (c : Call) (n k : ℕ) → kept (headBy c n k h) ≡ cond (change c n k e .restarts) 0 (look (hits c e) (kept h))
+  step-kept : (c : Call) (n : ℕ) (ss : List ℕ) (k : ℕ) → kept (headBy c n ss k h) ≡ cond (change c n ss k e .restarts) 0 (look (hits c e) (kept h))
   unfolding headBy change hits look freshOf restartedOf restartedFaults
-  step-kept (newHead node) n k =
-      elim (makes n node k) as (λ x. kept (cond x (freshOf node) h) ≡ cond (cond x (making node) nothing .restarts) 0 (kept h)) [ true ↦ refl | false ↦ refl ]
-  step-kept (byte b t s) n k =
+  step-kept (newHead node serial) n ss k =
+      elim (makes n ss node serial k) as (λ x. kept (cond x (freshOf node serial) h) ≡ cond (cond x (making node) nothing .restarts) 0 (kept h)) [ true ↦ refl | false ↦ refl ]
+  step-kept (byte b t s) n ss k =
       let l = gather (e .ear) b t in
       elim (room s) as (λ x. kept (cond x (stepOf h b t .head) h) ≡ cond (cond x (hearing e l) nothing .restarts) 0 (look (cond x (damage l) none) (kept h)))
       [ true ↦ heard-kept b t | false ↦ refl ]
-  step-kept (tick t) n k = ticked h t .hit
-  step-kept (named j a) n k =
+  step-kept (tick t) n ss k = ticked h t .hit
+  step-kept (named j a) n ss k =
       elim (names n j k) as (λ x. kept (cond x (askedOf a h) h) ≡ cond (cond x (asked a e) nothing .restarts) 0 (kept h)) [ true ↦ ask-kept a | false ↦ refl ]
-  step-kept (keys j s r) n k =
+  step-kept (keys j s r) n ss k =
       elim (names n j k) as (λ x. kept (cond x (keyedBy s r h) h) ≡ cond (cond x (pressed s r e) nothing .restarts) 0 (kept h)) [ true ↦ keys-kept s r | false ↦ refl ]
 
 -- ---- for every list of calls
-kept-old : (cs : Calls) (c : Call) (k : ℕ) → k < grown c (count cs) → k < count cs → kept (headIn cs k) ≡ lastHit cs k
+kept-old : (cs : Calls) (c : Call) (k : ℕ) → k < grown c (count cs) (serials cs) → k < count cs → kept (headIn cs k) ≡ lastHit cs k
     → kept (headIn (cs ▸ c) k) ≡ lastHit (cs ▸ c) k
 unfolding lastHit
-kept-old cs c k lt old A = ap kept (seen cs c k lt) ∙ step-kept (headIn cs k) (entry cs k) (sim cs k old) c (count cs) k ∙ rw A
+kept-old cs c k lt old A = ap kept (seen cs c k lt) ∙ step-kept (headIn cs k) (entry cs k) (sim cs k old) c (count cs) (serials cs) k ∙ rw A
 
 -- the head that a call makes keeps nothing, whatever stood in its place
-kept-new : (cs : Calls) (node k : ℕ) → k < grown (newHead node) (count cs) → makes (count cs) node k ≡ true
-    → kept (headIn (cs ▸ newHead node) k) ≡ lastHit (cs ▸ newHead node) k
+kept-new : (cs : Calls) (node serial k : ℕ) → k < grown (newHead node serial) (count cs) (serials cs) → makes (count cs) (serials cs) node serial k ≡ true
+    → kept (headIn (cs ▸ newHead node serial) k) ≡ lastHit (cs ▸ newHead node serial) k
 unfolding lastHit headBy change freshOf restartedOf restartedFaults
-kept-new cs node k lt e = ap kept (seen cs (newHead node) k lt) ∙ rw e
+kept-new cs node serial k lt e = ap kept (seen cs (newHead node serial) k lt) ∙ rw e
 
 kept-is : (cs : Calls) (k : ℕ) → k < count cs → kept (headIn cs k) ≡ lastHit cs k
 kept-is = of-heads (λ cs k. kept (headIn cs k) ≡ lastHit cs k) kept-old kept-new

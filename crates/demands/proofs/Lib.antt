@@ -32,6 +32,8 @@ pub mod Offering
 pub mod Sheets
 pub mod Displays
 pub mod Proved
+pub mod Serials
+pub mod Stretches
 pub mod Ordered
 pub mod Proposed
 pub mod Lived
@@ -42,5 +44,7 @@ pub mod WrongOffers
 pub mod WrongWords
 pub mod WrongSheets
 pub mod WrongDisplay
+pub mod WrongSerials
+pub mod WrongStretches
 pub mod Real
 pub mod Outcomes

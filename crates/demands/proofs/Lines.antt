@@ -16,18 +16,20 @@ use Rattle.effects.specs.Restart.{freshOf}
 use Rattle.head.specs.declared.calls.Heard.the-variants as heard
 use Rattle.head.specs.declared.calls.Answer.the-variants as answer
 use Rattle.head.specs.declared.calls.Hit.the-variants.{Bits}
+use Rattle.head.specs.declared.calls.Serial.the-variants.{Number}
 use Rattle.head.specs.Hear.{stepOf}
 use Rattle.head.specs.Calls as head
 use Rattle.head.specs.Calls.{factoryOf, nodeFits, madeOf}
 use Rattle.head.specs.Outcome.{tick, called}
 use Rattle.line.specs.declared.calls.Line.{Line}
 use Rattle.line.specs.Round.{allFit, saidBy, repliesOf}
-use Rattle.line.specs.Calls.{headAt, repliesAt, growOf, byteOf, byteSpaceOf, tickOf, keysOf, keysSpaceOf, lastHitOf, saveOf, saveSpaceOf}
+use Rattle.line.specs.Calls.{headAt, repliesAt, growOf, byteOf, byteSpaceOf, tickOf, keysOf, keysSpaceOf, lastHitOf, saveOf, saveSpaceOf, serialNumberOf}
 use Rattle.line.proofs.Laws.{one-replies, not-one, fits-small, fits-heads}
+use Rattle.line.proofs.Apart.{unused}
 use Rattle.line.proofs.Theorems.{byte-alone, byte-counts, byte-lays, tick-alone, named-there, named-one, keys-there, keys-lays, keys-one, well-at}
 use Rattle.demands.specs.Calls.{Ask}
 use Rattle.demands.specs.Run.{product, askOf, aloneOf}
-use Rattle.demands.specs.Lines.{Fits, heardAlone, numberIn, sum, allReplies, Only, ToOne, Grown}
+use Rattle.demands.specs.Lines.{Fits, heardAlone, numberIn, sum, allReplies, Only, ToOne, Unused, Grown}
 use Rattle.demands.proofs.Named.{ask-is}
 
 -- ---- a byte to a head that is well-formed, with room
@@ -55,7 +57,7 @@ module _ (b t room : ℕ) (wide : 10 ≤ room) where
 
   -- as many replies on the line as the heads give alone
   all-counted : (n : ℕ) (hs : List Head) → n ≤ length hs → allFit n hs ≡ true
-      → length (repliesOf n hs b t) ≡ sum n (λ k. says (getD hs k factoryOf))
+      → length (repliesOf n hs b t) ≡ sum n (λ k. says (getD hs k (factoryOf 0)))
   all-counted zero hs q e = refl
   all-counted (suc n) [] q e = absurd (not-suc-le-zero q)
   all-counted (suc n) (h ∷ hs) q e =
@@ -63,7 +65,7 @@ module _ (b t room : ℕ) (wide : 10 ≤ room) where
       let i = all-counted n hs (le-of-suc-le-suc q) (w .1) in
       length-append (saidBy (stepOf h b t)) (repliesOf n hs b t) ∙ rw (i, heard-is h (w .0)) (go (stepOf h b t .replied))
     where
-      go : (r : Bool) → length (cond r (stepOf h b t .reply ∷ []) []) + sum n (λ k. says (getD hs k factoryOf)) ≡ cond r 1 0 + sum n (λ k. says (getD hs k factoryOf))
+      go : (r : Bool) → length (cond r (stepOf h b t .reply ∷ []) []) + sum n (λ k. says (getD hs k (factoryOf 0))) ≡ cond r 1 0 + sum n (λ k. says (getD hs k (factoryOf 0)))
       go true = refl
       go false = refl
 
@@ -102,7 +104,7 @@ module _ (l : Line) (b t : ℕ) (space : List ℕ) (f : Fits l) (room : 10 ≤ l
     only-said : repliesAt l b t ≡ stepOf (headAt l k) b t .reply ∷ []
     only-said =
         let p = o .there in
-        one-replies b t factoryOf k (l .count) (l .heads) p (omega (arith, few))
+        one-replies b t (factoryOf 0) k (l .count) (l .heads) p (omega (arith, few))
         (replied b t (length space) room (headAt l k) (well-at l (f .fits) k p) (o .speaks))
         (λ j q n. quiet b t (length space) room (headAt l j) (well-at l (f .fits) j q) (o .others j q n))
 
@@ -116,6 +118,10 @@ module _ (l : Line) (b t : ℕ) (space : List ℕ) (f : Fits l) (room : 10 ≤ l
         )
 
 -- ---- the other calls
+pub tells : (h : Head) → wellformedOf h ≡ true → head.serialNumberOf h ≡ Number (h .stored .serial)
+unfolding head.serialNumberOf
+tells h w = rw w
+
 pub shows : (h : Head) → wellformedOf h ≡ true → head.lastHitOf h ≡ Bits (h .faults .hit)
 unfolding head.lastHitOf
 shows h w = rw w
@@ -156,24 +162,28 @@ module _ (l : Line) (f : Fits l) where
   unfolding saveOf saveSpaceOf
   line-saves i space p = (rw (f .fits, lt-ltb i (l .count) p), rw (f .fits, lt-ltb i (l .count) p))
 
-  pub line-grows : (node : ℕ) → l .count < 8 → Grown l (growOf l node) (madeOf node)
+  pub line-tells : (i : ℕ) → i < l .count → serialNumberOf l i ≡ head.serialNumberOf (headAt l i)
+  unfolding serialNumberOf
+  line-tells i p = rw (f .fits, lt-ltb i (l .count) p)
+
+  pub line-grows : (node serial : ℕ) → l .count < 32 → Unused l serial → Grown l (growOf l node serial) (madeOf node serial)
   unfolding growOf madeOf
-  line-grows node p = go (nodeFits node) refl
+  line-grows node serial p u = go (nodeFits node) refl
     where
       here : l .count < length (l .heads)
       here = let e = f .places in omega arith
 
-      go : (b : Bool) → nodeFits node ≡ b → Grown l (growOf l node) (madeOf node)
+      go : (b : Bool) → nodeFits node ≡ b → Grown l (growOf l node serial) (madeOf node serial)
       go true e =
-          rw (f .fits, lt-ltb (l .count) 8 p, e)
+          rw (f .fits, lt-ltb (l .count) 32 p, e, unused (factoryOf 0) serial (l .count) (l .heads) u)
           record {
             answer = refl;
-            there = λ _. getD-set-same (l .heads) (l .count) (freshOf node) factoryOf here;
+            there = λ _. getD-set-same (l .heads) (l .count) (freshOf node serial) (factoryOf 0) here;
             count = λ _. refl;
-            others = λ j n. getD-set-other (l .heads) (l .count) j (freshOf node) factoryOf n;
+            others = λ j n. getD-set-other (l .heads) (l .count) j (freshOf node serial) (factoryOf 0) n;
           }
       go false e =
-          rw (f .fits, lt-ltb (l .count) 8 p, e)
+          rw (f .fits, lt-ltb (l .count) 32 p, e)
           record {
             answer = refl;
             there = λ d. let z : _≡_ {A = ℕ} 0 1 = cc in absurd (omega arith);

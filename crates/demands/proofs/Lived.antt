@@ -1,5 +1,5 @@
--- A line grown by two forms, one that is sent back and one that is accepted, and calls that give no head its number: whether they do is tried, one
--- by one and head by head. Then the form that was sent back, mended.
+-- Lines grown by forms that are sent back and by forms that are accepted, up to a full one of 32 rows, and calls that give no head its number: whether they
+-- do is tried, one by one and head by head. Then the form that was sent back, mended.
 -- Assumes nothing.
 use Prim.Native.Nat.{ℕ, zero, suc, _≤_}
 use mathlib.Core.Path.{_≡_, refl}
@@ -20,7 +20,7 @@ use Rattle.demands.specs.Calls.{Calls, start, _▸_}
 use Rattle.demands.specs.Past.{asked, count}
 use Rattle.demands.specs.Run.{product}
 use Rattle.demands.specs.Demand3.{touch}
-use Rattle.demands.specs.Ordered.{grownBy, _then_, Unnumbered, FormsAreSafe, accident, asking, Accident, apart, lived, Lived}
+use Rattle.demands.specs.Ordered.{grownBy, _then_, Unnumbered, FormsAreSafe, Ordered, accident, twin, asking, Accident, apart, full, lived, Lived}
 use Rattle.demands.specs.Proposed.{further, IsNew, mended, Mended}
 use Rattle.demands.proofs.Computing.{computing}
 use Rattle.demands.proofs.Ordered.{safe}
@@ -54,17 +54,25 @@ two-reply passed =
     let two : 2 ≤ 1 = passed accident refl (omega arith) .one-reply asking 0x3F 0 10 2 (tried-all (grownBy accident) asking tt) refl in
     omega (arith, two)
 
+twin-refused : Ordered product twin → ⊥
+unfolding computing
+twin-refused o = let e : _≡_ {A = Option ℕ} (some 17) none = o .grows 1 (omega arith) in let z : _≡_ {A = ℕ} 0 1 = cc in omega arith
+
 pub sent-back : Accident product answerOf
 unfolding computing answerOf repeatFrom firstOf
-sent-back = record { sent-back = refl; collides = refl; needed = two-reply }
+sent-back = record { sent-back = refl; collides = refl; twin-sent-back = refl; twin-refused = twin-refused; needed = two-reply }
 
 pub lived-through : Lived product answerOf
 unfolding computing asked answerOf repeatFrom firstOf leaves tried
 lived-through =
     record {
       let-pass = refl;
-      nine-pass = refl;
-      ninth = refl;
+      full-pass = refl;
+      full-worth = safe full refl (omega arith);
+      further-pass = refl;
+      thirty-third = refl;
+      repeated = refl;
+      number-first = refl;
       worth = safe apart refl (omega arith);
       unnumbered = tried-all (grownBy apart) lived tt;
       replies = refl;

@@ -45,7 +45,7 @@ use Rattle.demands.proofs.Sim.{fits, sim}
 
 -- ---- all that the line has heard, and what a head has gathered of it: its end
 heardBy : Call → List ℕ → List ℕ
-heardBy (newHead node) l = l
+heardBy (newHead node serial) l = l
 heardBy (byte b t s) l = cond (room s) (l ++ (b ∷ [])) l
 heardBy (tick t) l = l
 heardBy (named j a) l = l
@@ -81,7 +81,7 @@ ends-kept l s e = either (λ m. Ends m s) (ltb (length l) 10) l [] e (ends-none 
 
 ends-ear : (c : Call) (g : Ear) (l : List ℕ) → Ends (g .bytes) l → Ends (earBy c g .bytes) (heardBy c l)
 unfolding earBy heardBy
-ends-ear (newHead node) g l e = e
+ends-ear (newHead node serial) g l e = e
 ends-ear (byte b t s) g l e =
     elim (room s) as (λ x. Ends (cond x (record { bytes = kept (gather g b t); last = t }) g .bytes) (cond x (l ++ (b ∷ [])) l))
     [ true ↦ ends-kept _ _ (ends-gather g l b t e) | false ↦ e ]
@@ -111,7 +111,7 @@ few-kept l = go (ltb (length l) 10) refl
 
 few-ear : (c : Call) (g : Ear) → Few (g .bytes) → Few (earBy c g .bytes)
 unfolding earBy
-few-ear (newHead node) g h = h
+few-ear (newHead node serial) g h = h
 few-ear (byte b t s) g h =
     elim (room s) as (λ x. Few (cond x (record { bytes = kept (gather g b t); last = t }) g .bytes)) [ true ↦ few-kept (gather g b t) | false ↦ h ]
 few-ear (tick t) g h = h
@@ -258,7 +258,7 @@ module _ (d : Head) (b t : ℕ) where
 
 replies-few : (cs : Calls) (b t : ℕ) → Differ cs → length (repliesAt (run cs) b t) ≤ 1
 replies-few cs b t d =
-    replies-one factoryOf b t (run cs .count) (run cs .heads)
+    replies-one (factoryOf 0) b t (run cs .count) (run cs .heads)
     (λ i j il jl ne. pick i j (rw (fits cs .counts) at il) (rw (fits cs .counts) at jl) ne)
   where
     pick : (i j : ℕ) → i < count cs → j < count cs → i ≢ j

@@ -13,6 +13,7 @@ use lib.Dec.{ltb, eqb}
 use lib.ListN.{length, getD, length-map, length-set, List·getD-map}
 use lib.Seq.{getD-set-same, getD-set-other}
 use Rattle.rows.specs.Among.{among}
+use Rattle.rows.proofs.Listed.{among-at}
 use Rattle.order_form.specs.declared.row.Row.{Row}
 use Rattle.order_form.specs.declared.row.Column.{Column}
 use Rattle.order_form.specs.declared.row.Column.the-variants.{Serial, Number}
@@ -31,7 +32,7 @@ use Rattle.free_number.specs.Lowest.{span, howMany, countOf}
 use Rattle.free_number.specs.Rows.{start, adding, rowsAfter}
 use Rattle.free_number.specs.Demand as keeper
 use Rattle.free_number.proofs.Lowest.{count-ext}
-use Rattle.free_number.proofs.Among.{among-at, count-most, count-twice, count-all, once}
+use Rattle.free_number.proofs.Among.{count-most, count-twice, count-all, once}
 use Rattle.free_number.proofs.Rows.{after-list, count-rows}
 use Rattle.free_number.proofs.Demands as keeper-proofs
 use Rattle.demands.specs.Proposed.{mapOf, proposed, further, IsNew, renumbered, LaterThan, Proposed, ProposedRests}

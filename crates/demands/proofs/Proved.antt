@@ -1,17 +1,20 @@
 -- Demand 3, proved: the value is what the last call that touched the parameter gave it, by going back over the calls; that it is read back is
 -- Back's, and a power cut is one call more, which touches no value. One reply and one change are One's.
 -- Assumes nothing.
-use Prim.Native.Nat.{ℕ, suc, _<_}
-use mathlib.Core.Path.{_≡_, refl}
+use Prim.Native.Nat.{ℕ, suc, _<_, _≤_}
+use mathlib.Core.Path.{_≡_, refl, sym}
 use mathlib.Core.Bool.{Bool, true, false, cond, _&&_}
 use mathlib.Core.Option.{Option, none, some}
 use native.Mathlib.Nat.{not-suc-le-zero}
 use native.Mathlib.Omega.{arith}
 use borrow.Author.Tests.{eqb-false}
 use lib.Dec.{eqb}
+use lib.ListN.{length, getD}
+use Rattle.head.specs.Calls.{factoryOf}
 use Rattle.line.proofs.Laws.{fits-small}
+use Rattle.line.proofs.Apart.{serial-at, serials-length}
 use Rattle.demands.specs.Calls.{Call, newHead, byte, tick, named, keys, power, Calls, start, _▸_, Bytes}
-use Rattle.demands.specs.Past.{nothing, making, mayAdd, grown, cutting, asked, names, change, look, next, account, count, value, inForce}
+use Rattle.demands.specs.Past.{nothing, making, mayAdd, grown, cutting, asked, names, change, look, next, account, count, serials, value, inForce}
 use Rattle.demands.specs.Run.{built, run, headIn}
 use Rattle.demands.specs.Demand3.{touch, Last, here, earlier, ReadsBack, Demand3}
 use Rattle.demands.proofs.Sim.{fits, sim}
@@ -35,7 +38,7 @@ cut-back cs k r bytes kl rl =
 -- ---- a call that does not touch a head's parameter did not make the head
 before : (cs : Calls) (c : Call) (k r : ℕ) → k < count (cs ▸ c) → touch cs c k r ≡ none → k < count cs
 unfolding account grown change
-before cs (newHead node) k r lt e = go (mayAdd (count cs) node) (eqb k (count cs)) refl lt e
+before cs (newHead node serial) k r lt e = go (mayAdd (count cs) (serials cs) node serial) (eqb k (count cs)) refl lt e
   where
     go : (b d : Bool) → eqb k (count cs) ≡ d → k < cond b (suc (count cs)) (count cs)
         → cond (b && d) (making node) nothing .gives r ≡ none → k < count cs
@@ -56,10 +59,24 @@ last (cs ▸ c) k r lt = go (touch cs c k r) refl (λ old. last cs k r old)
     go (some v) e ih = here e
     go none e ih = earlier e (ih (before cs c k r lt e))
 
+-- the serial numbers of the line are those that the account keeps
+module _ (cs : Calls) where
+  few : run cs .count ≤ length (run cs .heads)
+  few = omega (arith, fits-small (run cs) (fits cs .fits), fits cs .places)
+
+  pub marks-long : length (serials cs) ≡ count cs
+  marks-long = rw (← fits cs .marks, ← fits cs .counts) (serials-length (run cs .count) (run cs .heads) few)
+
+  pub marked-as : (k : ℕ) → k < count cs → headIn cs k .stored .serial ≡ getD (serials cs) k 0
+  marked-as k kl =
+      let p : k < run cs .count = rw (fits cs .counts) kl in
+      rw (← fits cs .marks) (sym (serial-at (factoryOf 0) k (run cs .count) (run cs .heads) p (omega (arith, few, p))))
+
 pub proved : Demand3 built
 proved =
     record {
-      eight = λ cs. (fits cs .counts, rw (fits cs .counts) at (fits-small (run cs) (fits cs .fits)), fits cs .fits);
+      thirty-two = λ cs. (fits cs .counts, rw (fits cs .counts) at (fits-small (run cs) (fits cs .fits)), fits cs .fits);
+      serial = λ cs. (marks-long cs, λ k kl. marked-as cs k kl);
       in-force = λ cs k kl. sim cs k kl .force-is;
       holds = λ cs k r bytes kl rl.
           record { is-last = last cs k r kl; now = now-back cs k r bytes kl rl; after-cut = cut-back cs k r bytes kl rl };

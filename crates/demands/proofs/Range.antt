@@ -3,7 +3,7 @@
 -- Assumes nothing.
 use Prim.Native.Nat.{ℕ, zero, suc, _+_, _<_, _≤_}
 use mathlib.Core.Path.{_≡_, refl, subst}
-use mathlib.Core.Bool.{Bool, true, false, cond, _&&_, and-eq-true-iff}
+use mathlib.Core.Bool.{Bool, true, false, cond, not, _&&_, and-eq-true-iff}
 use mathlib.Core.Logic.{_≢_}
 use mathlib.Core.List.{List, [], _∷_, _++_}
 use mathlib.Core.Option.{Option, none, some}
@@ -13,6 +13,7 @@ use borrow.Author.Tests.{ltb-true, leb-true, eqb-true}
 use lib.Dec.{leb, ltb, eqb}
 use lib.ListN.{length, getD}
 use Rattle.wire.specs.Telegram.{fieldsOf}
+use Rattle.rows.specs.Among.{among}
 use Rattle.rows.specs.Table.{rows, rowOf, address, delivery}
 use Rattle.rows.specs.Ranges.{fitsIn}
 use Rattle.rows.proofs.Laws.{all-right-at}
@@ -24,7 +25,7 @@ use Rattle.line.specs.Round.{allFit}
 use Rattle.line.proofs.Laws.{fits-small, fits-heads}
 use Rattle.sheet.specs.Format.{countOf, addressOf, bodyOf, valueOf}
 use Rattle.demands.specs.Calls.{Ask, measure, power, load, IsSheet, Call, newHead, byte, tick, named, keys, Calls, start, _▸_, Bytes}
-use Rattle.demands.specs.Past.{Ear, Entry, Change, nothing, making, mayAdd, room, since, gather, kept, earBy, accepted, resets, gives, locked, obeying, withdrawn, dropping, hearing, orElse, written, storing, loadable, loaded, asked, adopts, adopting, pressing, pressed, delivered, makes, names, change, look, next, account, count, entry, value, inForce}
+use Rattle.demands.specs.Past.{Ear, Entry, Change, nothing, making, mayAdd, room, since, gather, kept, earBy, accepted, resets, gives, locked, obeying, withdrawn, dropping, hearing, orElse, written, storing, loadable, loaded, asked, adopts, adopting, pressing, pressed, delivered, makes, names, change, look, next, account, count, serials, entry, value, inForce}
 use Rattle.demands.specs.Run.{run, headIn}
 use Rattle.demands.proofs.Ear.{ear-all}
 use Rattle.demands.proofs.Sim.{fits, sim}
@@ -81,7 +82,7 @@ gather-small g b t s p = either-small (leb (since t (g .last)) 10) (g .bytes ++ 
 
 ear-small : (c : Call) (g : Ear) → Bytes (start ▸ c) → Small (g .bytes) → Small (earBy c g .bytes)
 unfolding earBy kept
-ear-small (newHead node) g bs s = s
+ear-small (newHead node serial) g bs s = s
 ear-small (byte b t x) g bs s =
     elim (room x) as (λ y. Small (cond y (record { bytes = kept (gather g b t); last = t }) g .bytes))
     [ true ↦ either-small (ltb (length (gather g b t)) 10) (gather g b t) [] (gather-small g b t s (bs .1)) none-small | false ↦ s ]
@@ -128,16 +129,17 @@ none-words : Words nothing
 unfolding Words
 none-words r p = tt
 
-made-words : (n node k : ℕ) → Words (cond (makes n node k) (making node) nothing)
+made-words : (n : ℕ) (ss : List ℕ) (node serial k : ℕ) → Words (cond (makes n ss node serial k) (making node) nothing)
 unfolding Words delivered mayAdd
-made-words n node k r p = go (ltb n 8) (leb 1 node) (leb node 127) refl (eqb k n)
+made-words n ss node serial k r p = go (ltb n 32) (leb 1 node) (leb node 127) refl (not (among ss serial)) (eqb k n)
   where
-    go : (x y z : Bool) → leb node 127 ≡ z → (w : Bool) → Word (cond ((x && (y && z)) && w) (making node) nothing .gives r)
-    go true true true e true = let top = leb-true node 127 e in elim (eqb r 0) as (λ b. cond b node (delivery (rowOf r)) < 4294967296) [ true ↦ omega arith | false ↦ delivery-word r p ]
-    go true true true e false = tt
-    go true true false e w = tt
-    go true false z e w = tt
-    go false y z e w = tt
+    go : (x y z : Bool) → leb node 127 ≡ z → (s w : Bool) → Word (cond ((x && ((y && z) && s)) && w) (making node) nothing .gives r)
+    go true true true e true true = let top = leb-true node 127 e in elim (eqb r 0) as (λ b. cond b node (delivery (rowOf r)) < 4294967296) [ true ↦ omega arith | false ↦ delivery-word r p ]
+    go true true true e true false = tt
+    go true true true e false w = tt
+    go true true false e s w = tt
+    go true false z e s w = tt
+    go false y z e s w = tt
 
 hearing-words : (e : Entry) (l : List ℕ) → Small l → Words (hearing e l)
 unfolding hearing Words
@@ -173,14 +175,14 @@ pressed-words s m e o =
     either-words (leb s 7 && room m) _ nothing
     (either-words (adopts s e) (adopting (e .offer)) (pressing s) (λ r p. either-word (eqb r 0) (some (e .offer)) none o tt) (λ r p. tt)) none-words
 
-change-words : (c : Call) (n k : ℕ) (e : Entry) → Bytes (start ▸ c) → Small (e .ear .bytes) → (k < n → e .offer < 4294967296) → Words (change c n k e)
+change-words : (c : Call) (n : ℕ) (ss : List ℕ) (k : ℕ) (e : Entry) → Bytes (start ▸ c) → Small (e .ear .bytes) → (k < n → e .offer < 4294967296) → Words (change c n ss k e)
 unfolding change
-change-words (newHead node) n k e bs s o = made-words n node k
-change-words (byte b t x) n k e bs s o =
+change-words (newHead node serial) n ss k e bs s o = made-words n ss node serial k
+change-words (byte b t x) n ss k e bs s o =
     either-words (room x) (hearing e (gather (e .ear) b t)) nothing (hearing-words e (gather (e .ear) b t) (gather-small (e .ear) b t s (bs .1))) none-words
-change-words (tick t) n k e bs s o = none-words
-change-words (named j a) n k e bs s o = either-words (names n j k) (asked a e) nothing (asked-words a e (bs .1)) none-words
-change-words (keys j x m) n k e bs s o = go (ltb j n) refl (eqb k j) refl
+change-words (tick t) n ss k e bs s o = none-words
+change-words (named j a) n ss k e bs s o = either-words (names n j k) (asked a e) nothing (asked-words a e (bs .1)) none-words
+change-words (keys j x m) n ss k e bs s o = go (ltb j n) refl (eqb k j) refl
   where
     go : (p : Bool) → ltb j n ≡ p → (q : Bool) → eqb k j ≡ q → Words (cond (p && q) (pressed x m e) nothing)
     go true p true q = pressed-words x m e (o (rw (eqb-true k j q) (ltb-true j n p)))
@@ -197,5 +199,5 @@ pub value-small : (cs : Calls) → Bytes cs → (k r : ℕ) → r < 39 → value
 unfolding account next Words delivered
 value-small start bs k r p = elim (eqb r 0) as (λ b. cond b 31 (delivery (rowOf r)) < 4294967296) [ true ↦ omega arith | false ↦ delivery-word r p ]
 value-small (cs ▸ c) bs k r p =
-    look-word (change c (count cs) k (entry cs k) .gives r) (value cs k r)
-    (change-words c (count cs) k (entry cs k) (tt, bs .1) (gathered-small cs k (bs .0)) (λ lt. omega (arith, offer-small cs k lt .0)) r p) (value-small cs (bs .0) k r p)
+    look-word (change c (count cs) (serials cs) k (entry cs k) .gives r) (value cs k r)
+    (change-words c (count cs) (serials cs) k (entry cs k) (tt, bs .1) (gathered-small cs k (bs .0)) (λ lt. omega (arith, offer-small cs k lt .0)) r p) (value-small cs (bs .0) k r p)

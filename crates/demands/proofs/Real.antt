@@ -1,5 +1,6 @@
 -- The calls are the product's: each contract is the equation that the product has for it.
 -- Assumes nothing.
+use Prim.Native.Nat.{ℕ}
 use mathlib.Core.Path.{_≡_, _∙_, refl, sym}
 use Rattle.head.specs.Calls.{madeOf, factoryOf}
 use Rattle.head.specs.Outcome.{called}
@@ -9,17 +10,18 @@ use Rattle.free_number.specs.Demand as keeper
 use Rattle.master.specs.Demand as master
 use Rattle.master.proofs.Laws.{refusal-ten}
 use Rattle.demands.specs.Run.{product, askOf, after}
-use Rattle.demands.specs.Real.{Real, Plain, RealSheet, RealForm, RealMap, RealMaster}
+use Rattle.demands.specs.Real.{Real, Plain, RealSheet, RealForm, RealMap, RealMaster, RealSerial}
 use Rattle.demands.proofs.Computing.{computing}
 
-factory-made : factoryOf ≡ madeOf 31 .head
+factory-made : (serial : ℕ) → factoryOf serial ≡ madeOf 31 serial .head
 unfolding computing
-factory-made = refl
+factory-made serial = refl
 
 pub real : Real product
 unfolding called askOf
 real =
     record {
+      factory-asks = λ κs a. tt;
       make-asks = λ κs a. tt;
       byte-asks = λ κs a. tt;
       tick-asks = λ κs a. tt;
@@ -27,21 +29,26 @@ real =
       keys-asks = λ κs a. tt;
       power-asks = λ κs a. tt;
       last-hit-asks = λ κs a. tt;
+      serial-number-asks = λ κs a. tt;
       load-asks = λ κs a. tt;
       save-asks = λ κs a. tt;
       number-asks = λ κs a. tt;
       number-in-force-asks = λ κs a. tt;
       baud-in-force-asks = λ κs a. tt;
+      line-count-asks = λ κs a. tt;
+      line-fits-asks = λ κs a. tt;
       line-grow-asks = λ κs a. tt;
       line-byte-asks = λ κs a. tt;
+      line-until-reply-asks = λ κs a. tt;
       line-tick-asks = λ κs a. tt;
       line-measure-asks = λ κs a. tt;
       line-keys-asks = λ κs a. tt;
       line-power-asks = λ κs a. tt;
       line-last-hit-asks = λ κs a. tt;
+      line-serial-number-asks = λ κs a. tt;
       line-load-asks = λ κs a. tt;
       line-save-asks = λ κs a. tt;
-      factory = λ κs a y u p. p ∙ factory-made;
+      factory = λ κs a y u p. p ∙ factory-made (a .0);
       make = λ κs a y u p. p;
       byte = λ κs a y u p. p;
       tick = λ κs a y u p. p;
@@ -53,16 +60,20 @@ real =
       number-in-force = λ κs a y u p. p;
       baud-in-force = λ κs a y u p. p;
       last-hit = λ κs a y u p. p;
+      serial-number = λ κs a y u p. p;
       number = λ κs a y u p. p;
       empty = λ κs a y u p. p;
       count = λ κs a y u p. p;
+      fits = λ κs a y u p. p;
       grow = λ κs a y u p. p;
       line-byte = λ κs a y u p. p;
+      line-until-reply = λ κs a y u p. p;
       line-tick = λ κs a y u p. p;
       line-measure = λ κs a y u p. p;
       line-keys = λ κs a y u p. p;
       line-power = λ κs a y u p. p;
       line-last-hit = λ κs a y u p. p;
+      line-serial-number = λ κs a y u p. p;
       line-load = λ κs a y u p. p;
       line-save = λ κs a y u p. p;
     }
@@ -71,7 +82,7 @@ pub plain : Plain product
 unfolding after
 plain =
     record {
-      grown = λ node l. refl;
+      grown = λ node serial l. refl;
       heard = λ b t s l. refl;
       ticked = λ t l. refl;
       asked = λ j a l. refl;
@@ -143,3 +154,6 @@ real-master =
       read = λ κs a y u p. p;
       master-number = λ κs a y u p. p ∙ sym (refusal-ten (a .0));
     }
+
+pub real-serial : RealSerial
+real-serial = record { made-of = refl; grown-of = refl; factory-of = refl }

@@ -1,24 +1,26 @@
 -- Demand 1, proved: the refusals are those of the table, in its order, and a refused call changes nothing.
 -- Assumes nothing.
-use Prim.Native.Nat.{ℕ, _<_, _≤_}
+use Prim.Native.Nat.{ℕ}
 use native.Mathlib.Omega.{arith}
-use mathlib.Core.Path.{_≡_, refl, sym, _∙_, ap}
+use mathlib.Core.Path.{_≡_, refl, _∙_, ap}
 use mathlib.Core.Bool.{Bool, true, false, cond, not, _&&_}
 use mathlib.Core.List.{List, [], _∷_, map}
-use mathlib.Core.Option.{none, some}
+use mathlib.Core.Option.{Option, none, some}
 use borrow.Author.Tests.{ltb-true, leb-true, leb-false, lt-ltb, le-ltb}
 use lib.Dec.{leb, ltb}
 use lib.ListN.{length}
 use Rattle.rows.specs.Table.{rows}
+use Rattle.rows.specs.Among.{among}
 use Rattle.judge.proofs.Offers.{flip}
 use Rattle.state.specs.declared.parts.Head.{Head}
 use Rattle.state.specs.Wellformed.{inReachOf, wellformedOf}
 use Rattle.effects.specs.Stored.{restartedStored}
 use Rattle.effects.specs.Restart.{deliveredOf, restartedOf, freshOf}
 use Rattle.head.specs.declared.refusal.Refusal.{Refusal}
-use Rattle.head.specs.declared.refusal.Refusal.the-variants.{Malformed}
+use Rattle.head.specs.declared.refusal.Refusal.the-variants.{Node, Malformed}
 use Rattle.head.specs.declared.calls.Answer.{Answer}
 use Rattle.head.specs.declared.calls.Answer.the-variants as answer
+use Rattle.head.specs.declared.calls.Called as head-Called
 use Rattle.head.specs.declared.calls.Heard.{Heard}
 use Rattle.head.specs.declared.calls.Heard.the-variants as heard
 use Rattle.head.specs.declared.hear.Stepped.{Stepped}
@@ -34,11 +36,11 @@ use Rattle.head.proofs.Asked.{called-same, called-refusal, lent-refusal}
 use Rattle.head.proofs.Refused.{refused-nothing}
 use Rattle.line.specs.declared.calls.Line.{Line}
 use Rattle.line.specs.declared.calls.Called.{Called}
-use Rattle.line.specs.Calls.{fitsOf, headAt, growOf, byteOf, byteSpaceOf, tickOf, namedTests, namedOf, keysOf, keysSpaceOf, lastHitOf, saveOf, saveSpaceOf}
+use Rattle.line.specs.Calls.{serialsAt, fitsOf, headAt, growOf, byteOf, byteSpaceOf, tickOf, namedTests, namedOf, keysOf, keysSpaceOf, lastHitOf, saveOf, saveSpaceOf, serialNumberOf}
 use Rattle.line.proofs.Theorems.{grow-refused, tick-refused, named-refused, keys-refused, keys-spared, byte-refused, well-at}
 use Rattle.demands.specs.Calls.{Ask, Call, newHead, byte, tick, named, keys}
 use Rattle.demands.specs.Run.{product, aloneOf, after}
-use Rattle.demands.specs.Demand1.{Row, row, first, ownRows, keysRows, saveRows, nodeRow, namedRows, headRows, rowsFor, rowsAlone, numbered, ofAnswer, ofHeard, ofHit, refusedAs, refusedAlone, headAfter, spaceAfter, Numbered, Demand1}
+use Rattle.demands.specs.Demand1.{Row, row, first, ownRows, keysRows, saveRows, nodeRow, namedRows, headRows, rowsFor, rowsAlone, ofAnswer, ofHeard, ofHit, ofSerial, refusedAs, refusedAlone, headAfter, lentBy, spaceAfter, Numbered, Demand1}
 use Rattle.demands.proofs.Named.{ask-is}
 use Rattle.demands.proofs.Loading.{all-known-is, all-fitting-is}
 use Rattle.demands.proofs.Twenty.{twenty}
@@ -59,6 +61,18 @@ over a b = go (leb a b) refl
 abbrev asRow : Bool × Refusal → Row
 asRow t = row (refusalOf (t .1)) (not (t .0))
 
+abbrev numbered : Option Refusal → Option ℕ
+numbered none = none
+numbered (some why) = some (refusalOf why)
+
+answer-number : (a : Answer) → ofAnswer a ≡ numbered (alone.ofAnswer a)
+answer-number answer.Done = refl
+answer-number (answer.Refused why) = refl
+
+heard-number : (x : Heard) → ofHeard x ≡ numbered (alone.ofHeard x)
+heard-number (heard.Replies n) = refl
+heard-number (heard.Refused why) = refl
+
 failed-first : (ts : Tests) → numbered (failed ts) ≡ first (map asRow ts)
 failed-first [] = refl
 failed-first ((true, why) ∷ ts) = failed-first ts
@@ -75,7 +89,7 @@ own-rows (alone.load s) = rw (all-known-is s, all-fitting-is s)
 module _ (h : Head) where
   -- a call that lends space: its tests are rows, and 6 is the last of them
   lent-rows : (s : Stepped) (own : Tests) (n : ℕ) → ofHeard (head.lentOf h own n s .heard) ≡ first (map asRow (head.lentTests h own n))
-  lent-rows s own n = ap numbered (lent-refusal h s (head.lentTests h own n)) ∙ failed-first (head.lentTests h own n)
+  lent-rows s own n = heard-number (head.lentOf h own n s .heard) ∙ ap numbered (lent-refusal h s (head.lentTests h own n)) ∙ failed-first (head.lentTests h own n)
 
   head-keys : (s n : ℕ) → ofHeard (head.keysOf h s n .heard) ≡ first (headRows h (keysRows s n))
   unfolding head.keysOf
@@ -86,27 +100,33 @@ module _ (h : Head) where
   head-number (alone.byte b t space) = lent-rows (stepOf h b t) [] (length space) ∙ rw (twice (ltb (length space) 10))
   head-number (alone.keys s space) = head-keys s (length space)
   head-number (alone.asked a) =
-      ap numbered (called-refusal a h) ∙ failed-first ((wellformedOf h, Malformed) ∷ alone.own a) ∙ rw (own-rows a)
+      answer-number (alone.called a h .answer) ∙ ap numbered (called-refusal a h) ∙ failed-first ((wellformedOf h, Malformed) ∷ alone.own a) ∙ rw (own-rows a)
 
   head-hit : (w : Bool) → wellformedOf h ≡ w → ofHit (head.lastHitOf h) ≡ first (headRows h [])
   unfolding head.lastHitOf
   head-hit true p = simp p
   head-hit false p = simp p
 
+  head-serial : (w : Bool) → wellformedOf h ≡ w → ofSerial (head.serialNumberOf h) ≡ first (headRows h [])
+  unfolding head.serialNumberOf
+  head-serial true p = simp p
+  head-serial false p = simp p
+
   head-save : (n : ℕ) → ofAnswer (head.saveOf h n) ≡ first (headRows h (saveRows n))
   unfolding head.saveOf
   head-save n =
-      ap numbered (says alone.ofAnswer answer.Refused answer.Done (head.saveTests h n) (λ why. refl) refl)
+      answer-number (head.saveOf h n) ∙ ap numbered (says alone.ofAnswer answer.Refused answer.Done (head.saveTests h n) (λ why. refl) refl)
       ∙ failed-first (head.saveTests h n) ∙ rw (twice (ltb n 274))
 
 module _ (l : Line) where
-  grow-number : (node : ℕ) (f c n : Bool) → fitsOf l ≡ f → ltb (l .count) 8 ≡ c → (leb 1 node && leb node 127) ≡ n
-      → refusedAs (product .onLine) (newHead node) l ≡ first (rowsFor (newHead node) l)
+  grow-number : (node serial : ℕ) (f c n s : Bool) → fitsOf l ≡ f → ltb (l .count) 32 ≡ c → (leb 1 node && leb node 127) ≡ n → among (serialsAt l) serial ≡ s
+      → refusedAs (product .onLine) (newHead node serial) l ≡ first (rowsFor (newHead node serial) l)
   unfolding growOf
-  grow-number node false c n p q r = simp p
-  grow-number node true false n p q r = simp (p, flip (l .count) 8, q)
-  grow-number node true true false p q r = simp (p, flip (l .count) 8, q, node-same node, r)
-  grow-number node true true true p q r = simp (p, flip (l .count) 8, q, node-same node, r)
+  grow-number node serial false c n s p q r t = simp p
+  grow-number node serial true false n s p q r t = simp (p, flip (l .count) 32, q)
+  grow-number node serial true true false s p q r t = simp (p, flip (l .count) 32, q, node-same node, r)
+  grow-number node serial true true true false p q r t = simp (p, flip (l .count) 32, q, node-same node, r, t)
+  grow-number node serial true true true true p q r t = simp (p, flip (l .count) 32, q, node-same node, r, t)
 
   byte-number : (b t s : ℕ) (f r : Bool) → fitsOf l ≡ f → ltb s 10 ≡ r
       → refusedAs (product .onLine) (byte b t s) l ≡ first (rowsFor (byte b t s) l)
@@ -143,6 +163,13 @@ module _ (l : Line) where
   line-hit j true true p q =
       let w = well-at l p j (ltb-true _ _ q) in simp (p, flip j (l .count), q) (simp w at (head-hit (headAt l j) true w))
 
+  line-serial : (j : ℕ) (f i : Bool) → fitsOf l ≡ f → ltb j (l .count) ≡ i → ofSerial (serialNumberOf l j) ≡ first (namedRows l j [])
+  unfolding serialNumberOf
+  line-serial j false i p q = simp p
+  line-serial j true false p q = simp (p, flip j (l .count), q)
+  line-serial j true true p q =
+      let w = well-at l p j (ltb-true _ _ q) in simp (p, flip j (l .count), q) (simp w at (head-serial (headAt l j) true w))
+
   line-save : (j n : ℕ) (f i : Bool) → fitsOf l ≡ f → ltb j (l .count) ≡ i → ofAnswer (saveOf l j n) ≡ first (namedRows l j (saveRows n))
   unfolding saveOf
   line-save j n false i p q = simp p
@@ -151,33 +178,39 @@ module _ (l : Line) where
       let w = well-at l p j (ltb-true _ _ q) in simp (p, flip j (l .count), q) (simp w at (head-save (headAt l j) n))
 
   line-number : (c : Call) → refusedAs (product .onLine) c l ≡ first (rowsFor c l)
-  line-number (newHead node) = grow-number node (fitsOf l) (ltb (l .count) 8) (leb 1 node && leb node 127) refl refl refl
+  line-number (newHead node serial) = grow-number node serial (fitsOf l) (ltb (l .count) 32) (leb 1 node && leb node 127) (among (serialsAt l) serial) refl refl refl refl
   line-number (byte b t s) = byte-number b t s (fitsOf l) (ltb s 10) refl refl
   line-number (tick t) = tick-number t (fitsOf l) refl
   line-number (named j a) = rw (ask-is a l j) (named-number j a (fitsOf l) (ltb j (l .count)) refl refl)
   line-number (keys j s n) = keys-number j s n (fitsOf l) (ltb j (l .count)) refl refl
 
-made-number : (node : ℕ) (t : Bool) → (leb 1 node && leb node 127) ≡ t
-    → ofAnswer (madeOf node .answer) ≡ first (nodeRow node ∷ [])
+made-number : (node serial : ℕ) (t : Bool) → (leb 1 node && leb node 127) ≡ t
+    → ofAnswer (madeOf node serial .answer) ≡ first (nodeRow node ∷ [])
 unfolding madeOf
-made-number node true e = simp (node-same node, e)
-made-number node false e = simp (node-same node, e)
+made-number node serial true e = simp (node-same node, e)
+made-number node serial false e = simp (node-same node, e)
 
 -- ---- the head that making hands back
-fresh-numbered : (node : ℕ) → Numbered (freshOf node) node
+fresh-numbered : (node serial : ℕ) → Numbered (freshOf node serial) node
 unfolding freshOf restartedOf restartedStored deliveredOf rows
-fresh-numbered node = (refl, refl)
+fresh-numbered node serial = (refl, refl)
 
-made-head : (node : ℕ) (t : Bool) → nodeFits node ≡ t → ofAnswer (madeOf node .answer) ≡ none → Numbered (madeOf node .head) node
+made-serial : (node serial : ℕ) → madeOf node serial .head .stored .serial ≡ serial
+unfolding madeOf factoryOf freshOf restartedOf restartedStored
+made-serial node serial =
+    elim (nodeFits node) as (λ b. cond {A = head-Called.Called} b (head.doneWith (freshOf node serial)) (head.refusedWith (freshOf 31 serial) Node) .head .stored .serial ≡ serial)
+    [ true ↦ refl | false ↦ refl ]
+
+made-head : (node serial : ℕ) (t : Bool) → nodeFits node ≡ t → ofAnswer (madeOf node serial .answer) ≡ none → Numbered (madeOf node serial .head) node
 unfolding madeOf
-made-head node true e d = rw e (fresh-numbered node)
-made-head node false e d = absurd (let k : some 1 ≡ none = rw e at d in let z : _≡_ {A = ℕ} 0 1 = cc in omega arith)
+made-head node serial true e d = rw e (fresh-numbered node serial)
+made-head node serial false e d = absurd (let k : some 1 ≡ none = rw e at d in let z : _≡_ {A = ℕ} 0 1 = cc in omega arith)
 
-made-factory : (node n : ℕ) (t : Bool) → nodeFits node ≡ t → ofAnswer (madeOf node .answer) ≡ some n
-    → (madeOf node .head ≡ factoryOf) × (factoryOf ≡ madeOf 31 .head) × Numbered factoryOf 31
+made-factory : (node serial n : ℕ) (t : Bool) → nodeFits node ≡ t → ofAnswer (madeOf node serial .answer) ≡ some n
+    → (madeOf node serial .head ≡ factoryOf serial) × (factoryOf serial ≡ madeOf 31 serial .head) × Numbered (factoryOf serial) 31
 unfolding madeOf factoryOf
-made-factory node n true e d = absurd (let k : none ≡ some n = rw e at d in let z : _≡_ {A = ℕ} 0 1 = cc in omega arith)
-made-factory node n false e d = (rw e, rw (node-same 31), fresh-numbered 31)
+made-factory node serial n true e d = absurd (let k : none ≡ some n = rw e at d in let z : _≡_ {A = ℕ} 0 1 = cc in omega arith)
+made-factory node serial n false e d = (rw e, rw (node-same 31), fresh-numbered 31 serial)
 
 -- ---- a refused call changes nothing
 answered : (a : Answer) {n : ℕ} → ofAnswer a ≡ some n → (why : Refusal) × (a ≡ answer.Refused why)
@@ -200,7 +233,7 @@ keys-same l j s space n e = let w = heard-as (keysOf l j s (length space) .heard
 
 line-same : (c : Call) (l : Line) (n : ℕ) → refusedAs (product .onLine) c l ≡ some n → after (product .onLine) c l ≡ l
 unfolding after
-line-same (newHead node) l n e = let w = answered (growOf l node .answer) e in grow-refused l node (w .0) (w .1)
+line-same (newHead node serial) l n e = let w = answered (growOf l node serial .answer) e in grow-refused l node serial (w .0) (w .1)
 line-same (byte b t s) l n e = byte-same l b t s (fitsOf l) (ltb s 10) n refl refl e
 line-same (tick t) l n e = let w = answered (tickOf l t .answer) e in tick-refused l t (w .0) (w .1)
 line-same (named j a) l n e =
@@ -214,7 +247,7 @@ space-same l b t space n e =
     let w = heard-as (byteOf l b t (length space) .heard) e in byte-refused l b t space (w .0) (w .1) .1
 
 head-same : (c : alone.Call) (h : Head) (n : ℕ) → refusedAlone (product .onHead) c h ≡ some n
-    → (headAfter (product .onHead) c h ≡ h) × (spaceAfter (product .onHead) c h ≡ alone.lentBy c)
+    → (headAfter (product .onHead) c h ≡ h) × (spaceAfter (product .onHead) c h ≡ lentBy c)
 head-same (alone.byte b t space) h n e =
     let w = heard-as (head.byteOf h b t (length space) .heard) e in
     let u = refused-nothing (alone.byte b t space) h (ap alone.ofHeard (w .1)) in (u .head, u .space)
@@ -250,9 +283,12 @@ demand1 =
       head-hit = λ h. head-hit h (wellformedOf h) refl;
       line-save = λ l j n. line-save l j n (fitsOf l) (ltb j (l .count)) refl refl;
       head-save = head-save;
-      made-number = λ node. made-number node (leb 1 node && leb node 127) refl;
-      made-head = λ node. made-head node (nodeFits node) refl;
-      made-factory = λ node n. made-factory node n (nodeFits node) refl;
+      line-serial = λ l j. line-serial l j (fitsOf l) (ltb j (l .count)) refl refl;
+      head-serial = λ h. head-serial h (wellformedOf h) refl;
+      made-number = λ node serial. made-number node serial (leb 1 node && leb node 127) refl;
+      made-head = λ node serial. made-head node serial (nodeFits node) refl;
+      made-factory = λ node serial n. made-factory node serial n (nodeFits node) refl;
+      made-serial = made-serial;
       line-same = line-same;
       space-same = space-same;
       keys-same = keys-same;

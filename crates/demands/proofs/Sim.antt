@@ -30,7 +30,7 @@ use Rattle.head.specs.declared.hear.Stepped.{Stepped}
 use Rattle.head.specs.Hear.{elapsedOf, standingOf, stepOf, tellOf}
 use Rattle.head.specs.Moves.{overdueOf, tickedOf, measuredOf, leftKey, starKey, upKey, leftOf, starOf, upOf, pressedOf, withKeys, starTaken, adoptsOf, keyedOf}
 use Rattle.head.specs.Outcome as alone
-use Rattle.line.specs.Calls.{emptyOf, fitsOf}
+use Rattle.line.specs.Calls.{emptyOf, serialsAt, fitsOf}
 use Rattle.line.proofs.Theorems.{empty-fits}
 use Rattle.head.proofs.Again.{told-stored, told-keys}
 use Rattle.head.proofs.Passes.{unanswered}
@@ -38,12 +38,12 @@ use Rattle.sheet.specs.Format.{wellFormedOf}
 use Rattle.head.specs.Calls.{loadedOf}
 use Rattle.demands.specs.Calls.{Ask, measure, power, load, Call, newHead, byte, tick, named, keys, Calls, start, _▸_}
 use Rattle.demands.specs.Past as past
-use Rattle.demands.specs.Past.{Entry, Change, nothing, delivered, making, mayAdd, grown, room, gather, kept, earBy, noBytes, locked, accepted, obeying, withdrawn, dropping, telling, hearing, allStored, storing, loadable, loaded, cutting, asked, adopts, adopting, pressing, pressed, makes, names, change, look, next, entryBy, account, count, entry}
+use Rattle.demands.specs.Past.{Entry, Change, nothing, delivered, making, mayAdd, grown, marked, room, gather, kept, earBy, noBytes, locked, accepted, obeying, withdrawn, dropping, telling, hearing, allStored, storing, loadable, loaded, cutting, asked, adopts, adopting, pressing, pressed, makes, names, change, look, next, entryBy, account, count, serials, entry}
 use Rattle.demands.specs.Run.{runs, run, headIn}
 use Rattle.demands.proofs.Telegram.{Becomes, set-gives, told-becomes, told-restarts}
 use Rattle.demands.proofs.Ear.{Gathered, ear-short, ear-whole, ear-alone, told-none}
 use Rattle.demands.proofs.Loading.{all-known-is, guarded-is, loaded-becomes}
-use Rattle.demands.proofs.Heads.{after-keeps, after-count, askedOf, keyedBy, headBy, after-at}
+use Rattle.demands.proofs.Heads.{after-fits, after-count, after-serials, askedOf, keyedBy, headBy, after-at}
 
 -- a head h is what its entry says of it: its values, its number in force, its interlock, its bytes, the number that is offered, its keys
 pub record Is (h : Head) (e : Entry) : Type 0 where
@@ -55,21 +55,27 @@ pub record Is (h : Head) (e : Entry) : Type 0 where
   pub offer-is : h .stored .offer ≡ e .offer
   pub keys-is : h .keys ≡ e .keys
 
--- the line fits, has as many heads as the account counts, and places for eight
+-- the line fits, has as many heads as the account counts, with the serial numbers that it keeps, and places for 32
 pub record Fits (cs : Calls) : Type 0 where
   pub fits : fitsOf (run cs) ≡ true
-  pub places : length (run cs .heads) ≡ 8
+  pub places : length (run cs .heads) ≡ 32
   pub counts : run cs .count ≡ count cs
+  pub marks : serialsAt (run cs) ≡ serials cs
+
+both : {A : Type 0} (f : ℕ → List ℕ → A) {n m : ℕ} {ss ts : List ℕ} → n ≡ m → ss ≡ ts → f n ss ≡ f m ts
+both f {n} {m} {ss} {ts} p q = ap (λ x. f x ss) p ∙ ap (f m) q
 
 pub fits : (cs : Calls) → Fits cs
 unfolding runs account emptyOf
-fits start = record { fits = empty-fits .0; places = empty-fits .1; counts = refl }
+fits start = record { fits = empty-fits .0; places = empty-fits .1; counts = refl; marks = refl }
 fits (cs ▸ c) =
     let b = fits cs in
+    let k = after-fits c (run cs) (b .fits) (b .places) in
     record {
-      fits = after-keeps c (run cs) .0 (b .fits);
-      places = after-keeps c (run cs) .1 ∙ b .places;
-      counts = after-count c (run cs) (b .fits) ∙ ap (grown c) (b .counts);
+      fits = k .0;
+      places = k .1;
+      counts = after-count c (run cs) (b .fits) ∙ both (grown c) (b .counts) (b .marks);
+      marks = after-serials c (run cs) (b .fits) (b .places) ∙ both (marked c) (b .counts) (b .marks);
     }
 
 -- ---- a new head
@@ -88,9 +94,9 @@ fresh-values node r = go (eqb r 0) refl
     go true e = rw (eqb-true r 0 e) (getD-set-same (map delivery rows) 0 node 0 first)
     go false e = getD-set-other (map delivery rows) 0 r node 0 (eqb-false r 0 e) ∙ List·getD-map delivery rows r blank
 
-pub made-is : (node : ℕ) (ear : past.Ear) (e : Entry) → Is (freshOf node) (next (making node) ear e)
+pub made-is : (node serial : ℕ) (ear : past.Ear) (e : Entry) → Is (freshOf node serial) (next (making node) ear e)
 unfolding next look freshOf restartedOf restartedStored deliveredOf delivered emptyEar
-made-is node ear e =
+made-is node serial ear e =
     record {
       size = length-set (map delivery rows) 0 node ∙ rows-long;
       vals-are = λ r lt. fresh-values node r;
@@ -319,54 +325,54 @@ module _ (h : Head) (e : Entry) (A : Is h e) where
   ask-is power = cut-is (e .ear)
   ask-is (load s) = rw (guarded-is s h (loadedOf h s)) (load-is s)
 
-  step-is : (c : Call) (n k : ℕ) → Is (headBy c n k h) (entryBy c n k e)
+  step-is : (c : Call) (n : ℕ) (ss : List ℕ) (k : ℕ) → Is (headBy c n ss k h) (entryBy c n ss k e)
   unfolding headBy change earBy
-  step-is (newHead node) n k =
-      elim (makes n node k) as (λ x. Is (cond x (freshOf node) h) (next (cond x (making node) nothing) (e .ear) e))
-      [ true ↦ made-is node (e .ear) e | false ↦ idle-is h same ]
-  step-is (byte b t s) n k =
+  step-is (newHead node serial) n ss k =
+      elim (makes n ss node serial k) as (λ x. Is (cond x (freshOf node serial) h) (next (cond x (making node) nothing) (e .ear) e))
+      [ true ↦ made-is node serial (e .ear) e | false ↦ idle-is h same ]
+  step-is (byte b t s) n ss k =
       elim (room s) as (λ x. Is (cond x (stepOf h b t .head) h) (next (cond x (hearing e (gather (e .ear) b t)) nothing) (cond x (record { bytes = kept (gather (e .ear) b t); last = t }) (e .ear)) e))
       [ true ↦ heard-is b t | false ↦ idle-is h same ]
-  step-is (tick t) n k = idle-is (tickedOf h t) (tick-keeps h t)
-  step-is (named j a) n k =
+  step-is (tick t) n ss k = idle-is (tickedOf h t) (tick-keeps h t)
+  step-is (named j a) n ss k =
       elim (names n j k) as (λ x. Is (cond x (askedOf a h) h) (next (cond x (asked a e) nothing) (e .ear) e)) [ true ↦ ask-is a | false ↦ idle-is h same ]
-  step-is (keys j s r) n k =
+  step-is (keys j s r) n ss k =
       elim (names n j k) as (λ x. Is (cond x (keyedBy s r h) h) (next (cond x (pressed s r e) nothing) (e .ear) e)) [ true ↦ keys-is s r | false ↦ idle-is h same ]
 
 -- ---- for every list of calls
-module _ (cs : Calls) (c : Call) (k : ℕ) (lt : k < grown c (count cs)) where
-  pub seen : headIn (cs ▸ c) k ≡ headBy c (count cs) k (headIn cs k)
+module _ (cs : Calls) (c : Call) (k : ℕ) (lt : k < grown c (count cs) (serials cs)) where
+  pub seen : headIn (cs ▸ c) k ≡ headBy c (count cs) (serials cs) k (headIn cs k)
   unfolding runs
   seen =
       let b = fits cs in
-      let p : k < grown c (run cs .count) = subst (λ (n : ℕ). k < grown c n) (sym (b .counts)) lt in
-      after-at (run cs) (b .fits) (b .places) c k p ∙ ap (λ (n : ℕ). headBy c n k (headIn cs k)) (b .counts)
+      let p : k < grown c (run cs .count) (serialsAt (run cs)) = subst (λ (n : ℕ). k < n) (sym (both (grown c) (b .counts) (b .marks))) lt in
+      after-at (run cs) (b .fits) (b .places) c k p ∙ both (λ n ss. headBy c n ss k (headIn cs k)) (b .counts) (b .marks)
 
   sim-old : Is (headIn cs k) (entry cs k) → Is (headIn (cs ▸ c) k) (entry (cs ▸ c) k)
   unfolding account
-  sim-old A = subst (λ (h : Head). Is h (entry (cs ▸ c) k)) (sym seen) (step-is (headIn cs k) (entry cs k) A c (count cs) k)
+  sim-old A = subst (λ (h : Head). Is h (entry (cs ▸ c) k)) (sym seen) (step-is (headIn cs k) (entry cs k) A c (count cs) (serials cs) k)
 
 -- the head that a call makes: there was none before it
-sim-new : (cs : Calls) (node k : ℕ) → k < grown (newHead node) (count cs) → makes (count cs) node k ≡ true
-    → Is (headIn (cs ▸ newHead node) k) (entry (cs ▸ newHead node) k)
+sim-new : (cs : Calls) (node serial k : ℕ) → k < grown (newHead node serial) (count cs) (serials cs) → makes (count cs) (serials cs) node serial k ≡ true
+    → Is (headIn (cs ▸ newHead node serial) k) (entry (cs ▸ newHead node serial) k)
 unfolding account headBy change earBy
-sim-new cs node k lt e =
-    subst (λ (h : Head). Is h (entry (cs ▸ newHead node) k)) (sym (seen cs (newHead node) k lt)) (go (makes (count cs) node k) e)
+sim-new cs node serial k lt e =
+    subst (λ (h : Head). Is h (entry (cs ▸ newHead node serial) k)) (sym (seen cs (newHead node serial) k lt)) (go (makes (count cs) (serials cs) node serial k) e)
   where
     go : (x : Bool) → x ≡ true
-        → Is (cond x (freshOf node) (headIn cs k)) (next (cond x (making node) nothing) (entry cs k .ear) (entry cs k))
-    go true q = made-is node (entry cs k .ear) (entry cs k)
+        → Is (cond x (freshOf node serial) (headIn cs k)) (next (cond x (making node) nothing) (entry cs k .ear) (entry cs k))
+    go true q = made-is node serial (entry cs k .ear) (entry cs k)
     go false q = absurd (false≢true q)
 
 -- a head that is there after a call was there before it, or is the one that the call makes
-old-or-new : (cs : Calls) (c : Call) (k : ℕ) (Q : Type 0) → k < grown c (count cs) → (k < count cs → Q)
-    → ((node : ℕ) → c ≡ newHead node → makes (count cs) node k ≡ true → Q) → Q
+old-or-new : (cs : Calls) (c : Call) (k : ℕ) (Q : Type 0) → k < grown c (count cs) (serials cs) → (k < count cs → Q)
+    → ((node serial : ℕ) → c ≡ newHead node serial → makes (count cs) (serials cs) node serial k ≡ true → Q) → Q
 unfolding grown
-old-or-new cs (newHead node) k Q lt old new = go (mayAdd (count cs) node) refl (eqb k (count cs)) refl lt
+old-or-new cs (newHead node serial) k Q lt old new = go (mayAdd (count cs) (serials cs) node serial) refl (eqb k (count cs)) refl lt
   where
-    go : (b : Bool) → mayAdd (count cs) node ≡ b → (e : Bool) → eqb k (count cs) ≡ e → k < cond b (suc (count cs)) (count cs) → Q
+    go : (b : Bool) → mayAdd (count cs) (serials cs) node serial ≡ b → (e : Bool) → eqb k (count cs) ≡ e → k < cond b (suc (count cs)) (count cs) → Q
     go false p e q below = old below
-    go true p true q below = new node refl (rw (p, q))
+    go true p true q below = new node serial refl (rw (p, q))
     go true p false q below = let ne = eqb-false k (count cs) q in old (omega arith)
 old-or-new cs (byte b t s) k Q lt old new = old lt
 old-or-new cs (tick t) k Q lt old new = old lt
@@ -375,14 +381,14 @@ old-or-new cs (keys j s n) k Q lt old new = old lt
 
 -- so what holds of a head when it is made, and after each call if it held before, holds of every head
 pub of-heads : (P : Calls → ℕ → Type 0)
-    → ((cs : Calls) (c : Call) (k : ℕ) → k < grown c (count cs) → k < count cs → P cs k → P (cs ▸ c) k)
-    → ((cs : Calls) (node k : ℕ) → k < grown (newHead node) (count cs) → makes (count cs) node k ≡ true → P (cs ▸ newHead node) k)
+    → ((cs : Calls) (c : Call) (k : ℕ) → k < grown c (count cs) (serials cs) → k < count cs → P cs k → P (cs ▸ c) k)
+    → ((cs : Calls) (node serial k : ℕ) → k < grown (newHead node serial) (count cs) (serials cs) → makes (count cs) (serials cs) node serial k ≡ true → P (cs ▸ newHead node serial) k)
     → (cs : Calls) (k : ℕ) → k < count cs → P cs k
 unfolding account
 of-heads P old new start k lt = absurd (not-suc-le-zero lt)
 of-heads P old new (cs ▸ c) k lt =
     old-or-new cs c k (P (cs ▸ c) k) lt (λ p. old cs c k lt p (of-heads P old new cs k p))
-    (λ node e m. rw e (new cs node k (rw e at lt) m))
+    (λ node serial e m. rw e (new cs node serial k (rw e at lt) m))
 
 pub sim : (cs : Calls) (k : ℕ) → k < count cs → Is (headIn cs k) (entry cs k)
 sim = of-heads (λ cs k. Is (headIn cs k) (entry cs k)) (λ cs c k lt p A. sim-old cs c k lt A) sim-new

@@ -76,9 +76,9 @@ invalid-fails : Wrong2 (Hears (gathered blank 0x011FFB04004A4F4237) 0x91 (withFl
 unfolding computing
 invalid-fails m e d = true≢false (acted m d (gathered blank 0x011FFB04004A4F4237) 0x91 (withFlags false false false true false) (refl, refl, refl, refl) e .acknowledged1)
 
-outside-fails : Wrong2 (Hears (gathered (freshOf 31) 0x011FFB04044A4F4237) 0x95 (withFlags true false false true false))
+outside-fails : Wrong2 (Hears (gathered (freshOf 31 0) 0x011FFB04044A4F4237) 0x95 (withFlags true false false true false))
 unfolding computing
-outside-fails m e d = true≢false (acted m d (gathered (freshOf 31) 0x011FFB04044A4F4237) 0x95 (withFlags true false false true false) (refl, refl, refl, refl) e .acknowledged1)
+outside-fails m e d = true≢false (acted m d (gathered (freshOf 31 0) 0x011FFB04044A4F4237) 0x95 (withFlags true false false true false) (refl, refl, refl, refl) e .acknowledged1)
 
 own-only-fails : Wrong2 (Hears (gathered job 0x011FFF060000000000) 0xE7 (withFlags true true false false false))
 unfolding computing

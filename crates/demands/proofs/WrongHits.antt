@@ -60,7 +60,7 @@ yes-kept-fails = fails yesKept noisier 0 1 0x84 (record { there = omega arith; s
 
 kept-at-power-fails : (m : System) → KeptAtPower m → Demand2 m → ⊥
 kept-at-power-fails m e d =
-    let h = keeping (freshOf 31) 1 in
+    let h = keeping (freshOf 31 0) 1 in
     let z : _≡_ {A = ℕ} 1 0 = rw (e h) at (d .powers h (rw (e h)) .hit) in omega arith
 
 -- the last byte of the read of 20h at 31
@@ -73,15 +73,15 @@ abbrev bitsOf : Hit → ℕ
 bitsOf (Bits n) = n
 bitsOf (Refused why) = 0
 
-nothing-shown-fails : (m : System) → m .onHead .hit (keeping (freshOf 31) 5) ≡ Bits 0 → Demand2 m → ⊥
+nothing-shown-fails : (m : System) → m .onHead .hit (keeping (freshOf 31 0) 5) ≡ Bits 0 → Demand2 m → ⊥
 unfolding computing
-nothing-shown-fails m e d = let z : _≡_ {A = ℕ} 0 5 = ap bitsOf (sym e ∙ d .shows (keeping (freshOf 31) 5) refl) in omega arith
+nothing-shown-fails m e d = let z : _≡_ {A = ℕ} 0 5 = ap bitsOf (sym e ∙ d .shows (keeping (freshOf 31 0) 5) refl) in omega arith
 
-first-shown-fails : (m : System) → m .onLine .hit pair 1 ≡ m .onHead .hit (freshOf 31) → Demand2 m → ⊥
+first-shown-fails : (m : System) → m .onLine .hit pair 1 ≡ m .onHead .hit (freshOf 31 0) → Demand2 m → ⊥
 unfolding computing
 first-shown-fails m e d =
-    let named = d .line-shows pair 1 (record { fits = refl; places = refl }) (omega arith) ∙ d .shows (keeping (freshOf 12) 5) refl in
-    let z : _≡_ {A = ℕ} 5 0 = ap bitsOf (sym named ∙ e ∙ d .shows (freshOf 31) refl) in omega arith
+    let named = d .line-shows pair 1 (record { fits = refl; places = refl }) (omega arith) ∙ d .shows (keeping (freshOf 12 1) 5) refl in
+    let z : _≡_ {A = ℕ} 5 0 = ap bitsOf (sym named ∙ e ∙ d .shows (freshOf 31 0) refl) in omega arith
 
 pub wrong-hits : WrongHits
 wrong-hits =

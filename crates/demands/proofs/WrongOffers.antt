@@ -35,7 +35,7 @@ use Rattle.demands.proofs.Wrongs.{read20}
 
 -- ---- adopts at the write: 5 is offered, and 31 is in force
 abbrev five : Calls
-five = hear (start ▸ newHead 31) 0x011FD2000000000005C9
+five = hear (start ▸ newHead 31 4711) 0x011FD2000000000005C9
 
 still-31 : (inForce five 0 ≡ 31) × (count five ≡ 1) × (headAfter (machineOf eager) five 0 .stored .number ≡ 5)
 unfolding computing
@@ -49,7 +49,7 @@ eager-fails d =
 
 -- ---- a new head, and the same with 5 offered; ten bytes are lent
 abbrev new : Head
-new = freshOf 31
+new = freshOf 31 0
 
 abbrev offered : Head
 offered = withStored new (withOffer (new .stored) 5)
@@ -83,7 +83,10 @@ failing-taken = (record { well = refl; room = omega arith }, refl, record { soun
 
 -- two heads to which 5 is offered
 abbrev two : Line
-two = record { heads = replicate 8 offered; count = 2 }
+two =
+    let s = offered .stored in
+    let other = withStored offered (record { values = s .values; number = s .number; baud = s .baud; offer = s .offer; serial = 1; unlocked = s .unlocked }) in
+    record { heads = offered ∷ other ∷ replicate 30 offered; count = 2 }
 
 two-fits : Fits two
 unfolding computing

@@ -121,12 +121,12 @@ module _ (m : System) where
   unfolding computing
   few-rows-fails e o d = let z : _≡_ {A = ℕ} 38 39 = rw o at (d .saves new (replicate 274 1) refl e .rows) in omega arith
 
-  first-saved-fails : m .onHead .save new 274 ≡ Done → m .onHead .save (freshOf 12) 274 ≡ Done → firstSaved m → Sheets m → ⊥
+  first-saved-fails : m .onHead .save new 274 ≡ Done → m .onHead .save (freshOf 12 1) 274 ≡ Done → firstSaved m → Sheets m → ⊥
   unfolding computing
   first-saved-fails e f o d =
       let space = replicate {A = ℕ} 274 1 in
       let named = d .line-saves pair 1 space (record { fits = refl; places = refl }) (omega arith) .1 in
-      let twelve : getD (m .onHead .sheet (freshOf 12) space) 121 0 ≡ 12 = d .saves (freshOf 12) space refl f .bodies 0 (omega arith) .3 in
+      let twelve : getD (m .onHead .sheet (freshOf 12 1) space) 121 0 ≡ 12 = d .saves (freshOf 12 1) space refl f .bodies 0 (omega arith) .3 in
       let own : getD (m .onHead .sheet new space) 121 0 ≡ 31 = d .saves new space refl e .bodies 0 (omega arith) .3 in
       let z : _≡_ {A = ℕ} 12 31 = sym twelve ∙ ap (λ (s : List ℕ). getD s 121 0) (sym named ∙ o) ∙ own in omega arith
 

@@ -1,13 +1,13 @@
 -- The wrong systems fail: demands 1 and 2 each by a head at 31, alone or on a line, and a byte or a call; demand 3 by the runs of Echo.
 -- Assumes nothing.
-use Prim.Native.Nat.{ℕ, _%_, _<_}
+use Prim.Native.Nat.{ℕ, _%_}
 use mathlib.Core.Path.{_≡_, refl, sym, _∙_, ap}
 use mathlib.Core.Bool.{true, false}
 use mathlib.Core.List.{List, [], _∷_, _++_}
 use mathlib.Core.Option.{Option, some}
 use native.Mathlib.Omega.{arith}
 use lib.IntN.{pos, natAbs}
-use lib.ListN.{length, replicate, take, drop, getD, set}
+use lib.ListN.{replicate, getD, set}
 use Rattle.judge.specs.declared.judged.Judged.{Judged}
 use Rattle.judge.specs.Judged.{judgedOf}
 use Rattle.state.specs.declared.parts.Head.{Head}
@@ -38,7 +38,7 @@ use Rattle.demands.proofs.Echo.{echoing-fails, hasty-fails}
 -- ---- a head at 31, and others made of it: with an error remembered and one replied; with a key down; with 02h 1 and the monitor running since
 -- 0; with nine bytes of a telegram gathered. Ten bytes of space
 abbrev pub new : Head
-new = freshOf 31
+new = freshOf 31 0
 
 abbrev like : Stored → Faults → Monitor → ℕ → Head
 like s f m k =
@@ -54,7 +54,7 @@ pressed = like (new .stored) (new .faults) (new .monitor) 1
 abbrev watched : Head
 watched =
     let s = new .stored in
-    like (record { values = set (s .values) 2 1; number = s .number; baud = s .baud; offer = s .offer; unlocked = s .unlocked }) (new .faults)
+    like (record { values = set (s .values) 2 1; number = s .number; baud = s .baud; offer = s .offer; serial = s .serial; unlocked = s .unlocked }) (new .faults)
     (record { running = true; since = 0 }) 0
 
 abbrev pub space : List ℕ
@@ -153,7 +153,7 @@ module _ (c : ℕ) where
 
 -- a line of that one head
 abbrev lone : Line
-lone = record { heads = read20 ∷ replicate 7 factoryOf; count = 1 }
+lone = record { heads = read20 ∷ replicate 31 (factoryOf 0); count = 1 }
 
 lone-fits : Fits lone
 unfolding computing
@@ -170,7 +170,7 @@ zeroing-fails d =
 
 -- two heads
 abbrev two : Line
-two = record { heads = replicate 8 new; count = 2 }
+two = record { heads = new ∷ freshOf 31 1 ∷ replicate 30 new; count = 2 }
 
 two-fits : Fits two
 unfolding computing
@@ -212,7 +212,7 @@ module _ (m : System) where
   seven-made-fails : SevenMade m → Demand1 m → ⊥
   unfolding computing
   seven-made-fails e d =
-      let z : _≡_ {A = ℕ} 7 31 = ap (λ (h : Head). h .stored .number) (rw e at (d .made-factory 0 1 (rw e) .0)) in omega arith
+      let z : _≡_ {A = ℕ} 7 31 = ap (λ (h : Head). h .stored .number) (rw e at (d .made-factory 0 0 1 (rw e) .0)) in omega arith
 
 pub wrong : Wrong
 wrong =

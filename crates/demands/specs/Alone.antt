@@ -60,7 +60,7 @@ pub record Taken (h : Head) (space : List ℕ) : Type 0 where
 
 -- ---- power, and A0h 9: a restart. What the ear holds past its count, and when the last byte came, cannot be seen where none is gathered
 pub record Restarted (h k : Head) : Type 0 where
-  -- keeps the 39, interlock, error memory, calibration and last measurement
+  -- keeps the 39, interlock, error memory, calibration and last measurement (and its serial number: Serials)
   pub values : k .stored .values ≡ h .stored .values
   pub unlocked : k .stored .unlocked ≡ h .stored .unlocked
   pub memory : k .faults .memory ≡ h .faults .memory

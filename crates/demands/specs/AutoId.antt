@@ -112,7 +112,7 @@ pub record AutoId (m : System) : Type 0 where
 
 -- ---- the story of 6.8: two heads at 31; 5 is offered, and up pressed at the one; 6 is offered, and up pressed at the other
 abbrev pub two : Calls
-two = start ▸ newHead 31 ▸ newHead 31
+two = start ▸ newHead 31 4711 ▸ newHead 31 4712
 
 -- ten bytes more, written as one number, all at the time 0; nine, which lack the last
 abbrev pub hear : Calls → ℕ → Calls

@@ -11,10 +11,10 @@ pub data Ask : Type 0 where
   power : Ask
   load : List ℕ → Ask
 
--- grow by a node number; a byte at a time, with so much space lent; a tick; a call that names a head; a key state of the head that is named, with so
+-- grow by a node number and a serial number; a byte at a time, with so much space lent; a tick; a call that names a head; a key state of the head that is named, with so
 -- much space lent
 pub data Call : Type 0 where
-  newHead : ℕ → Call
+  newHead : ℕ → ℕ → Call
   byte : ℕ → ℕ → ℕ → Call
   tick : ℕ → Call
   named : ℕ → Ask → Call
@@ -33,7 +33,7 @@ IsSheet power = Unit {0}
 IsSheet (load s) = (k : ℕ) → getD s k 0 < 256
 
 abbrev pub IsByte : Call → Type 0
-IsByte (newHead node) = Unit {0}
+IsByte (newHead node serial) = Unit {0}
 IsByte (byte b t s) = b < 256
 IsByte (tick t) = Unit {0}
 IsByte (named j a) = IsSheet a

@@ -11,8 +11,9 @@ use Rattle.signed.specs.Rounding.{roundedOf}
 use Rattle.signed.specs.Difference.{differentialOf}
 use Rattle.state.specs.declared.parts.Head.{Head}
 use Rattle.effects.specs.Restart.{freshOf}
-use Rattle.head.specs.Hear.{withEar, stepOf}
+use Rattle.head.specs.Hear.{stepOf}
 use Rattle.line.specs.Round.{saidBy}
+use Rattle.demands.specs.Run.{withEar}
 
 -- the n bytes of a number, high byte first
 abbrev pub split : ℕ → ℕ → List ℕ
@@ -62,7 +63,7 @@ pub data Case : Type 0 where
   differs : ℤ → ℤ → ℤ → Case
 
 abbrev pub Holds : Case → Type 0
-Holds (says node feeds replies) = repliesOf feeds (freshOf node) ≡ map (split 10) replies
+Holds (says node feeds replies) = repliesOf feeds (freshOf node 0) ≡ map (split 10) replies
 Holds (rounds p k r) = roundedOf p k ≡ r
 Holds (differs a s d) = differentialOf a s false ≡ d
 

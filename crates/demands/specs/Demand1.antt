@@ -1,4 +1,4 @@
--- Demand 1: every byte, time, key state and measurement is met without harm; a refused call returns its number from document 01, exactly when
+-- Demand 1: every byte, time, key state and measurement is met without harm; a refused call returns its number from the documents, exactly when
 -- the table gives it, and changes no head, no line and no byte of the lent reply space. (That no call does harm is what the checker proves of
 -- every function, for every input: no public function has a `requires`.)
 -- Assumes nothing.
@@ -15,16 +15,20 @@ use Rattle.signed.specs.Number.{minus}
 use Rattle.state.specs.declared.parts.Head.{Head}
 use Rattle.state.specs.Settings.{valueAt, nodePlace}
 use Rattle.state.specs.Wellformed.{wellformedOf}
-use Rattle.head.specs.declared.refusal.Refusal.{Refusal}
+use Rattle.rows.specs.Among.{among}
 use Rattle.head.specs.declared.calls.Answer.{Answer}
+use Rattle.head.specs.declared.calls.Answer.the-variants as answer
 use Rattle.head.specs.declared.calls.Heard.{Heard}
+use Rattle.head.specs.declared.calls.Heard.the-variants as heard
 use Rattle.head.specs.declared.calls.Hit.{Hit}
 use Rattle.head.specs.declared.calls.Hit.the-variants.{Bits, Refused}
+use Rattle.head.specs.declared.calls.Serial.{Serial}
+use Rattle.head.specs.declared.calls.Serial.the-variants as serial
 use Rattle.head.specs.Refusals.{refusalOf}
 use Rattle.head.specs.Calls.{factoryOf}
 use Rattle.head.specs.Outcome as alone
 use Rattle.line.specs.declared.calls.Line.{Line}
-use Rattle.line.specs.Calls.{fitsOf}
+use Rattle.line.specs.Calls.{serialsAt, fitsOf}
 use Rattle.sheet.specs.Format.{wellFormedOf}
 use Rattle.demands.specs.Calls.{Call, newHead, byte, tick, named, keys}
 use Rattle.demands.specs.Past.{allStored, allRight}
@@ -72,9 +76,9 @@ namedRows l j own = row 20 (not (fitsOf l)) ∷ row 3 (leb (l .count) j) ∷ own
 abbrev pub headRows : Head → List Row → List Row
 headRows h own = row 20 (not (wellformedOf h)) ∷ own
 
--- 20 goes before all others, 2 before 1, and 3 before 4, 5, 6 and 11 to 14
+-- 20 goes before all others, 2 before 1, 1 before 17, and 3 before 4, 5, 6 and 11 to 14
 abbrev pub rowsFor : Call → Line → List Row
-rowsFor (newHead node) l = row 20 (not (fitsOf l)) ∷ row 2 (leb 8 (l .count)) ∷ nodeRow node ∷ []
+rowsFor (newHead node serial) l = row 20 (not (fitsOf l)) ∷ row 2 (leb 32 (l .count)) ∷ nodeRow node ∷ row 17 (among (serialsAt l) serial) ∷ []
 rowsFor (byte b t s) l = row 20 (not (fitsOf l)) ∷ spaceRow s ∷ []
 rowsFor (tick t) l = row 20 (not (fitsOf l)) ∷ ownRows (alone.tick t)
 rowsFor (named j a) l = namedRows l j (ownRows (aloneOf a))
@@ -87,22 +91,24 @@ rowsAlone (alone.keys s space) h = headRows h (keysRows s (length space))
 rowsAlone (alone.asked a) h = headRows h (ownRows a)
 
 -- ---- the number that a call returns
-abbrev pub numbered : Option Refusal → Option ℕ
-numbered none = none
-numbered (some why) = some (refusalOf why)
-
 abbrev pub ofAnswer : Answer → Option ℕ
-ofAnswer a = numbered (alone.ofAnswer a)
+ofAnswer answer.Done = none
+ofAnswer (answer.Refused why) = some (refusalOf why)
 
 abbrev pub ofHeard : Heard → Option ℕ
-ofHeard x = numbered (alone.ofHeard x)
+ofHeard (heard.Replies n) = none
+ofHeard (heard.Refused why) = some (refusalOf why)
 
 abbrev pub ofHit : Hit → Option ℕ
 ofHit (Bits x) = none
 ofHit (Refused why) = some (refusalOf why)
 
+abbrev pub ofSerial : Serial → Option ℕ
+ofSerial (serial.Number n) = none
+ofSerial (serial.Refused why) = some (refusalOf why)
+
 abbrev pub refusedAs : OnLine → Call → Line → Option ℕ
-refusedAs m (newHead node) l = ofAnswer (m .grow l node .answer)
+refusedAs m (newHead node serial) l = ofAnswer (m .grow l node serial .answer)
 refusedAs m (byte b t s) l = ofHeard (m .byte l b t s .heard)
 refusedAs m (tick t) l = ofAnswer (m .tick l t .answer)
 refusedAs m (named j a) l = ofAnswer (m .ask a l j .answer)
@@ -113,11 +119,16 @@ refusedAlone m (alone.byte b t space) h = ofHeard (m .byte h b t (length space) 
 refusedAlone m (alone.keys s space) h = ofHeard (m .keys h s (length space) .heard)
 refusedAlone m (alone.asked a) h = ofAnswer (m .ask a h .answer)
 
--- the head, and the lent space, after a call on a head alone; what lends no space leaves none
+-- the head after a call on a head alone, and the lent space before and after it; what lends no space has none
 abbrev pub headAfter : OnHead → alone.Call → Head → Head
 headAfter m (alone.byte b t space) h = m .byte h b t (length space) .head
 headAfter m (alone.keys s space) h = m .keys h s (length space) .head
 headAfter m (alone.asked a) h = m .ask a h .head
+
+abbrev pub lentBy : alone.Call → List ℕ
+lentBy (alone.byte b t space) = space
+lentBy (alone.keys s space) = space
+lentBy (alone.asked a) = []
 
 abbrev pub spaceAfter : OnHead → alone.Call → Head → List ℕ
 spaceAfter m (alone.byte b t space) h = m .space h b t space
@@ -138,13 +149,18 @@ pub record Demand1 (m : System) : Type 0 where
   -- and so does the call that writes a sheet (request (vii)), which hands back no line and no head
   pub line-save : (l : Line) (j n : ℕ) → ofAnswer (m .onLine .save l j n) ≡ first (namedRows l j (saveRows n))
   pub head-save : (h : Head) (n : ℕ) → ofAnswer (m .onHead .save h n) ≡ first (headRows h (saveRows n))
-  pub made-number : (node : ℕ) → ofAnswer (m .onHead .make node .answer) ≡ first (nodeRow node ∷ [])
+  -- and the call that reads the serial number (request (xi)), which has no row of its own either
+  pub line-serial : (l : Line) (j : ℕ) → ofSerial (m .onLine .serial l j) ≡ first (namedRows l j [])
+  pub head-serial : (h : Head) → ofSerial (m .onHead .serial h) ≡ first (headRows h [])
+  pub made-number : (node serial : ℕ) → ofAnswer (m .onHead .make node serial .answer) ≡ first (nodeRow node ∷ [])
   -- 20 exactly when one of its clauses fails
   pub twenty : Twenty
-  -- a head that is made has the number given in force and in 00h; refused, it is the factory head, which is the one made with 31
-  pub made-head : (node : ℕ) → ofAnswer (m .onHead .make node .answer) ≡ none → Numbered (m .onHead .make node .head) node
-  pub made-factory : (node n : ℕ) → ofAnswer (m .onHead .make node .answer) ≡ some n
-      → (m .onHead .make node .head ≡ factoryOf) × (factoryOf ≡ m .onHead .make 31 .head) × Numbered factoryOf 31
+  -- a head that is made has the number given in force and in 00h; refused, it is the factory head, which is the one made with 31; either way it has
+  -- the serial number given
+  pub made-head : (node serial : ℕ) → ofAnswer (m .onHead .make node serial .answer) ≡ none → Numbered (m .onHead .make node serial .head) node
+  pub made-factory : (node serial n : ℕ) → ofAnswer (m .onHead .make node serial .answer) ≡ some n
+      → (m .onHead .make node serial .head ≡ factoryOf serial) × (factoryOf serial ≡ m .onHead .make 31 serial .head) × Numbered (factoryOf serial) 31
+  pub made-serial : (node serial : ℕ) → m .onHead .make node serial .head .stored .serial ≡ serial
   -- refused, it changes no line and no head, and no byte of the space (a call that reads what a head keeps, or writes its sheet, hands back neither)
   pub line-same : (c : Call) (l : Line) (n : ℕ) → refusedAs (m .onLine) c l ≡ some n → after (m .onLine) c l ≡ l
   pub space-same : (l : Line) (b t : ℕ) (space : List ℕ) (n : ℕ)
@@ -155,4 +171,4 @@ pub record Demand1 (m : System) : Type 0 where
       → ofAnswer (m .onLine .save l j (length space)) ≡ some n → m .onLine .sheet l j space ≡ space
   pub saved-same : (h : Head) (space : List ℕ) (n : ℕ) → ofAnswer (m .onHead .save h (length space)) ≡ some n → m .onHead .sheet h space ≡ space
   pub head-same : (c : alone.Call) (h : Head) (n : ℕ) → refusedAlone (m .onHead) c h ≡ some n
-      → (headAfter (m .onHead) c h ≡ h) × (spaceAfter (m .onHead) c h ≡ alone.lentBy c)
+      → (headAfter (m .onHead) c h ≡ h) × (spaceAfter (m .onHead) c h ≡ lentBy c)

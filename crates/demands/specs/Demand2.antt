@@ -22,17 +22,18 @@ use Rattle.state.specs.Wellformed.{wellformedOf}
 use Rattle.head.specs.declared.calls.Answer.the-variants.{Done}
 use Rattle.head.specs.declared.calls.Heard.the-variants as heard
 use Rattle.head.specs.declared.calls.Hit.the-variants as hit
+use Rattle.head.specs.declared.calls.Serial.the-variants as serial
 use Rattle.reply.specs.Reply.{replyOf}
-use Rattle.head.specs.Hear.{standingOf, gatheredOf, toldOf, withEar}
+use Rattle.head.specs.Hear.{standingOf, gatheredOf, toldOf}
 use Rattle.head.specs.Outcome as alone
 use Rattle.line.specs.declared.calls.Line.{Line}
 use Rattle.line.specs.Calls.{headAt}
 use Rattle.demands.specs.Calls.{Ask}
-use Rattle.demands.specs.Run.{System, aloneOf}
+use Rattle.demands.specs.Run.{System, withEar, aloneOf}
 use Rattle.demands.specs.Alone.{Taken, entries, entered, Restarted, Ticked, Measured, adopts, Keyed, Adopted, Announced, New}
 use Rattle.demands.specs.Every.{Every}
 use Rattle.demands.specs.Bits.{Bits}
-use Rattle.demands.specs.Lines.{Fits, heardAlone, allReplies, Only, ToOne, Grown}
+use Rattle.demands.specs.Lines.{Fits, heardAlone, allReplies, Only, ToOne, Unused, Grown}
 
 pub record Demand2 (m : System) : Type 0 where
   -- a byte that ends no telegram is gathered; no reply, no byte of the space changed, nothing else of the head
@@ -67,7 +68,7 @@ pub record Demand2 (m : System) : Type 0 where
       → let j = judgedOf ten s in j .verdict ≡ Obeyed → changesOf (j .command) ≡ true → j .telegram .parameter ≡ 0xA0 → j .telegram .value ≡ 9
       → j .deed ≡ Restart
   -- ---- the other calls on a head, where they are done (Demand1 says when): each part of the head by its sentence of document 01
-  pub makes : (node : ℕ) → m .onHead .make node .answer ≡ Done → New (m .onHead .make node .head) node
+  pub makes : (node serial : ℕ) → m .onHead .make node serial .answer ≡ Done → New (m .onHead .make node serial .head) node
   pub powers : (h : Head) → m .onHead .ask alone.power h .answer ≡ Done → Restarted h (m .onHead .ask alone.power h .head)
   pub ticks : (h : Head) (t : ℕ) → m .onHead .ask (alone.tick t) h .answer ≡ Done → Ticked h (m .onHead .ask (alone.tick t) h .head) t
   pub measures : (h : Head) (x : ℤ) → m .onHead .ask (alone.measure x) h .answer ≡ Done → Measured h (m .onHead .ask (alone.measure x) h .head) x
@@ -83,6 +84,8 @@ pub record Demand2 (m : System) : Type 0 where
       × Announced h space (m .onHead .keySpace h state space)
   -- what the last damaged telegram was hit by: what the head keeps of it
   pub shows : (h : Head) → wellformedOf h ≡ true → m .onHead .hit h ≡ hit.Bits (h .faults .hit)
+  -- its serial number: what the head was made with
+  pub tells : (h : Head) → wellformedOf h ≡ true → m .onHead .serial h ≡ serial.Number (h .stored .serial)
   -- an error list with one code more: of at most ten, in ten places
   pub remembers : (l : ErrorList) (code : ℕ) → length (l .codes) ≡ 10 → l .count ≤ 10 → entries (rememberedOf l code) ≡ entered (entries l) code
   -- ---- a byte on a line that fits, with ten bytes of space: each head then stands as it does alone, and as many are there as before
@@ -112,5 +115,7 @@ pub record Demand2 (m : System) : Type 0 where
       → ToOne l i (m .onLine .keys l i s (length space) .line) (m .onHead .keys (headAt l i) s (length space) .head)
       × (m .onLine .keys l i s (length space) .heard ≡ m .onHead .keys (headAt l i) s (length space) .heard)
       × (m .onLine .keySpace l i s space ≡ m .onHead .keySpace (headAt l i) s space)
-  pub line-grows : (l : Line) (node : ℕ) → Fits l → l .count < 8 → Grown l (m .onLine .grow l node) (m .onHead .make node)
+  pub line-grows : (l : Line) (node serial : ℕ) → Fits l → l .count < 32 → Unused l serial
+      → Grown l (m .onLine .grow l node serial) (m .onHead .make node serial)
   pub line-shows : (l : Line) (i : ℕ) → Fits l → i < l .count → m .onLine .hit l i ≡ m .onHead .hit (headAt l i)
+  pub line-tells : (l : Line) (i : ℕ) → Fits l → i < l .count → m .onLine .serial l i ≡ m .onHead .serial (headAt l i)

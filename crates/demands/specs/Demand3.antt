@@ -10,18 +10,18 @@ use mathlib.Core.Bool.{true}
 use mathlib.Core.Logic.{_≢_, _⊎_}
 use mathlib.Core.List.{List, [], _∷_}
 use mathlib.Core.Option.{Option, none, some}
-use lib.ListN.{length}
+use lib.ListN.{length, getD}
 use Rattle.wire.specs.Check.{hitOf}
 use Rattle.wire.specs.Telegram.{fieldsOf}
 use Rattle.rows.specs.Table.{rowOf, address}
 use Rattle.head.specs.declared.calls.Heard.the-variants as heard
 use Rattle.demands.specs.Calls.{Call, Calls, _▸_, byte, named, power, Bytes}
-use Rattle.demands.specs.Past.{since, gather, change, count, entry, value, inForce}
+use Rattle.demands.specs.Past.{since, gather, change, count, serials, entry, value, inForce}
 use Rattle.demands.specs.Run.{Machine, runs, headAfter, answers, readOf}
 
 -- what the call c, after the calls cs, gave the parameter at place r of head k: by its making, by an accepted write or by a factory reset
 abbrev pub touch : Calls → Call → ℕ → ℕ → Option ℕ
-touch cs c k r = change c (count cs) k (entry cs k) .gives r
+touch cs c k r = change c (count cs) (serials cs) k (entry cs k) .gives r
 
 -- v is what the last of the calls that touched the parameter at place r of head k gave it
 pub data Last (k r v : ℕ) : Calls → Type 0 where
@@ -64,8 +64,10 @@ abbrev pub Unchanged : Machine → Calls → ℕ → ℕ → ℕ → ℕ → Typ
 Unchanged m cs b t s k = m .values (headAfter m (cs ▸ byte b t s) k) ≡ m .values (headAfter m cs k)
 
 pub record Demand3 (m : Machine) : Type 0 where
-  -- the line has the heads that the account counts, eight at most, and is never refused with 20
-  pub eight : (cs : Calls) → (m .count (runs m cs) ≡ count cs) × (count cs ≤ 8) × (m .fits (runs m cs) ≡ true)
+  -- the line has the heads that the account counts, 32 at most, and is never refused with 20
+  pub thirty-two : (cs : Calls) → (m .count (runs m cs) ≡ count cs) × (count cs ≤ 32) × (m .fits (runs m cs) ≡ true)
+  -- the account's serial numbers are as many, and each is the one that the head hands out
+  pub serial : (cs : Calls) → (length (serials cs) ≡ count cs) × ((k : ℕ) → k < count cs → m .serial (headAfter m cs k) ≡ getD (serials cs) k 0)
   -- the account's number in force is the one that the head hands out
   pub in-force : (cs : Calls) (k : ℕ) → k < count cs → m .number (headAfter m cs k) ≡ inForce cs k
   -- for bytes of eight bits, as the type of the byte call has them

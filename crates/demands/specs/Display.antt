@@ -100,7 +100,7 @@ pub record Display (m : System) : Type 0 where
   pub keys-unset : (h : Head) (s n : ℕ) → displays h ≡ true → Unset h (m .onHead .keys h s n .head)
   pub ask-unset : (h : Head) (a : alone.Ask) → displays h ≡ true → Unset h (m .onHead .ask a h .head)
   -- so it is with a head that is made alone, and each call on it alone keeps it so; and with each head of a line grown from none, after any calls
-  pub made-kept : (node : ℕ) → Kept (m .onHead .make node .head)
+  pub made-kept : (node serial : ℕ) → Kept (m .onHead .make node serial .head)
   pub byte-kept : (h : Head) (b t n : ℕ) → Kept h → Kept (m .onHead .byte h b t n .head)
   pub keys-kept : (h : Head) (s n : ℕ) → Kept h → Kept (m .onHead .keys h s n .head)
   pub ask-kept : (h : Head) (a : alone.Ask) → Kept h → Kept (m .onHead .ask a h .head)

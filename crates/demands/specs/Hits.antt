@@ -16,7 +16,7 @@ use Rattle.wire.specs.Telegram.{bytesOf}
 use Rattle.head.specs.declared.refusal.Refusal.the-variants.{NoHead}
 use Rattle.head.specs.declared.calls.Hit.the-variants.{Bits, Refused}
 use Rattle.demands.specs.Calls.{Call, newHead, byte, tick, named, keys, measure, power, Calls, start, _▸_, hearing}
-use Rattle.demands.specs.Past.{Entry, room, gather, change, look, count, entry}
+use Rattle.demands.specs.Past.{Entry, room, gather, change, look, count, serials, entry}
 use Rattle.demands.specs.Run.{System, machineOf, runs, headAfter}
 use Rattle.demands.specs.Cases.{split}
 
@@ -34,7 +34,7 @@ damage l = cond (ltb (length l) 10 || eqb (xorAll l) 0) none (some (xorAll l))
 -- what a call gives a head to keep: a byte that is heard, and ends ten damaged ones there, gives their exclusive-or, for whomever they were and
 -- whatever command they held
 unfoldable pub hits : Call → Entry → Option ℕ
-hits (newHead node) e = none
+hits (newHead node serial) e = none
 hits (byte b t s) e = cond (room s) (damage (gather (e .ear) b t)) none
 hits (tick t) e = none
 hits (named j a) e = none
@@ -43,7 +43,7 @@ hits (keys j s n) e = none
 -- the last of them since head k was restarted last, its making included; 0 where there is none
 unfoldable pub lastHit : Calls → ℕ → ℕ
 lastHit start k = 0
-lastHit (cs ▸ c) k = cond (change c (count cs) k (entry cs k) .restarts) 0 (look (hits c (entry cs k)) (lastHit cs k))
+lastHit (cs ▸ c) k = cond (change c (count cs) (serials cs) k (entry cs k) .restarts) 0 (look (hits c (entry cs k)) (lastHit cs k))
 
 -- after any calls on a line grown from none, refused ones included, the call that reads it shows it, on the line and on the head alone; of a head
 -- that is not there it is refused with 3
@@ -67,7 +67,7 @@ AllSeen m (s ∷ ss) =
     (m .onLine .hit (runs (machineOf m) (s .calls)) 0 ≡ Bits (s .first)) × (m .onLine .hit (runs (machineOf m) (s .calls)) 1 ≡ Bits (s .second)) × AllSeen m ss
 
 abbrev pub two : Calls
-two = start ▸ newHead 31 ▸ newHead 12
+two = start ▸ newHead 31 4711 ▸ newHead 12 4712
 
 -- ten bytes more, written as one number, all at the time 0
 abbrev pub hear : Calls → ℕ → Calls

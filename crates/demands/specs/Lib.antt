@@ -16,11 +16,15 @@ pub mod AutoId
 pub mod Unseen
 pub mod Sheets
 pub mod Display
+pub mod Serials
+pub mod Stretches
 pub mod WrongHits
 pub mod WrongOffers
 pub mod WrongWords
 pub mod WrongSheets
 pub mod WrongDisplay
+pub mod WrongSerials
+pub mod WrongStretches
 pub mod Ordered
 pub mod Proposed
 pub mod Wrong

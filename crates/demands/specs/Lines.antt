@@ -17,10 +17,10 @@ use Rattle.line.specs.declared.calls.Called.{Called}
 use Rattle.line.specs.Calls.{fitsOf, headAt}
 use Rattle.demands.specs.Run.{OnHead}
 
--- a line that no call refuses with 20; that it has eight places is its type's
+-- a line that no call refuses with 20; that it has 32 places is its type's
 pub record Fits (l : Line) : Type 0 where
   pub fits : fitsOf l ≡ true
-  pub places : length (l .heads) ≡ 8
+  pub places : length (l .heads) ≡ 32
 
 -- ---- a byte that head k hears alone, with the space that is lent to the line
 abbrev pub heardAlone : OnHead → Line → ℕ → ℕ → List ℕ → ℕ → head-Fed.Fed
@@ -51,6 +51,10 @@ pub record ToOne (l : Line) (i : ℕ) (k : Line) (h : Head) : Type 0 where
   pub there : headAt k i ≡ h
   pub others : (j : ℕ) → j ≢ i → headAt k j ≡ headAt l j
   pub count : k .count ≡ l .count
+
+-- no head of the line has this serial number
+abbrev pub Unused : Line → ℕ → Type 0
+Unused l serial = (k : ℕ) → k < l .count → headAt l k .stored .serial ≢ serial
 
 -- a line grown by a head: d is what making that head alone gives. Where it is made, it stands in the next place and counts; no other head changes
 pub record Grown (l : Line) (c : Called) (d : head-Called.Called) : Type 0 where

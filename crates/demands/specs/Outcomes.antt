@@ -157,6 +157,7 @@ pub record Outcomes : Type 0 where
   pub head-calls-keys : One head-calls.keys.Kinds.ps head-calls.keys.Kinds.r head-calls.keys.Reads.Post
   pub head-calls-power : One head-calls.power.Kinds.ps head-calls.power.Kinds.r head-calls.power.Reads.Post
   pub head-calls-last-hit : One head-calls.last_hit.Kinds.ps head-calls.last_hit.Kinds.r head-calls.last_hit.Reads.Post
+  pub head-calls-serial-number : One head-calls.serial_number.Kinds.ps head-calls.serial_number.Kinds.r head-calls.serial_number.Reads.Post
   pub head-calls-load : One head-calls.load.Kinds.ps head-calls.load.Kinds.r head-calls.load.Reads.Post
   pub head-calls-save : One head-calls.save.Kinds.ps head-calls.save.Kinds.r head-calls.save.Reads.Post
   pub head-calls-number-in-force : One head-calls.number_in_force.Kinds.ps head-calls.number_in_force.Kinds.r head-calls.number_in_force.Reads.Post
@@ -176,12 +177,14 @@ pub record Outcomes : Type 0 where
   pub line-calls-count : One line-calls.count.Kinds.ps line-calls.count.Kinds.r line-calls.count.Reads.Post
   pub line-calls-fits : One line-calls.fits.Kinds.ps line-calls.fits.Kinds.r line-calls.fits.Reads.Post
   pub line-calls-grow : One line-calls.grow.Kinds.ps line-calls.grow.Kinds.r line-calls.grow.Reads.Post
+  pub line-calls-until-reply : One line-calls.until_reply.Kinds.ps line-calls.until_reply.Kinds.r line-calls.until_reply.Reads.Post
   pub line-calls-byte : One line-calls.byte.Kinds.ps line-calls.byte.Kinds.r line-calls.byte.Reads.Post
   pub line-calls-tick : One line-calls.tick.Kinds.ps line-calls.tick.Kinds.r line-calls.tick.Reads.Post
   pub line-calls-measure : One line-calls.measure.Kinds.ps line-calls.measure.Kinds.r line-calls.measure.Reads.Post
   pub line-calls-keys : One line-calls.keys.Kinds.ps line-calls.keys.Kinds.r line-calls.keys.Reads.Post
   pub line-calls-power : One line-calls.power.Kinds.ps line-calls.power.Kinds.r line-calls.power.Reads.Post
   pub line-calls-last-hit : One line-calls.last_hit.Kinds.ps line-calls.last_hit.Kinds.r line-calls.last_hit.Reads.Post
+  pub line-calls-serial-number : One line-calls.serial_number.Kinds.ps line-calls.serial_number.Kinds.r line-calls.serial_number.Reads.Post
   pub line-calls-load : One line-calls.load.Kinds.ps line-calls.load.Kinds.r line-calls.load.Reads.Post
   pub line-calls-save : One line-calls.save.Kinds.ps line-calls.save.Kinds.r line-calls.save.Reads.Post
   pub order-form-answer-number : One order_form-answer.Refusal.number.Kinds.ps order_form-answer.Refusal.number.Kinds.r order_form-answer.Refusal.number.Reads.Post

@@ -1,4 +1,4 @@
--- The account of a line, found by looking back over the calls: how many heads there are, and of each its stored parameters, its number in
+-- The account of a line, found by looking back over the calls: how many heads there are, their serial numbers, and of each its stored parameters, its number in
 -- force, its interlock, the bytes that stand gathered, the number that is offered and the keys that are down. It names no head and no line: its
 -- imports are the wire, the table of parameters, the format of a sheet and the calls.
 -- Assumes nothing.
@@ -37,9 +37,10 @@ pub record Entry : Type 0 where
   pub offer : ℕ
   pub keys : ℕ
 
--- of the line: how many heads there are, and the entry of each
+-- of the line: how many heads there are, the serial numbers that they were made with, in their order, and the entry of each
 pub record Account : Type 0 where
   pub count : ℕ
+  pub serials : List ℕ
   pub entry : ℕ → Entry
 
 -- what a call changes of a head: the value that it gives the parameter at a place, where it touches it; whether it restarts the head;
@@ -61,16 +62,24 @@ delivered node r = cond (eqb r 0) node (delivery (rowOf r))
 abbrev pub making : ℕ → Change
 making node = record { gives = λ r. some (delivered node r); restarts = true; opens = some false; offers = none; presses = none }
 
--- a node number of 1 to 127, while there are fewer than eight
-unfoldable pub mayAdd : ℕ → ℕ → Bool
-mayAdd n node = ltb n 8 && (leb 1 node && leb node 127)
+-- a node number of 1 to 127, while there are fewer than 32, with a serial number that none of them has
+unfoldable pub mayAdd : ℕ → List ℕ → ℕ → ℕ → Bool
+mayAdd n ss node serial = ltb n 32 && ((leb 1 node && leb node 127) && not (among ss serial))
 
-unfoldable pub grown : Call → ℕ → ℕ
-grown (newHead node) n = cond (mayAdd n node) (suc n) n
-grown (byte b t s) n = n
-grown (tick t) n = n
-grown (named j a) n = n
-grown (keys j s r) n = n
+unfoldable pub grown : Call → ℕ → List ℕ → ℕ
+grown (newHead node serial) n ss = cond (mayAdd n ss node serial) (suc n) n
+grown (byte b t s) n ss = n
+grown (tick t) n ss = n
+grown (named j a) n ss = n
+grown (keys j s r) n ss = n
+
+-- the serial numbers: that of a new head stands after the others, and no other call touches them
+unfoldable pub marked : Call → ℕ → List ℕ → List ℕ
+marked (newHead node serial) n ss = cond (mayAdd n ss node serial) (ss ++ (serial ∷ [])) ss
+marked (byte b t s) n ss = ss
+marked (tick t) n ss = ss
+marked (named j a) n ss = ss
+marked (keys j s r) n ss = ss
 
 -- ---- bytes are gathered: a byte call with ten bytes of space is heard by every head, and a gap of more than 10 ms starts anew
 abbrev pub room : ℕ → Bool
@@ -88,7 +97,7 @@ unfoldable pub kept : List ℕ → List ℕ
 kept l = cond (ltb (length l) 10) l []
 
 unfoldable pub earBy : Call → Ear → Ear
-earBy (newHead node) e = e
+earBy (newHead node serial) e = e
 earBy (byte b t s) e = cond (room s) (record { bytes = kept (gather e b t); last = t }) e
 earBy (tick t) e = e
 earBy (named j a) e = e
@@ -228,20 +237,20 @@ pressing s = record { gives = λ r. none; restarts = false; opens = none; offers
 unfoldable pub pressed : ℕ → ℕ → Entry → Change
 pressed s n e = cond (leb s 7 && room n) (cond (adopts s e) (adopting (e .offer)) (pressing s)) nothing
 
--- ---- what a call changes of head k of n
+-- ---- what a call changes of head k of n, whose serial numbers are ss
 -- head k is the one that this call makes; it is the one that this call names
-abbrev pub makes : ℕ → ℕ → ℕ → Bool
-makes n node k = mayAdd n node && eqb k n
+abbrev pub makes : ℕ → List ℕ → ℕ → ℕ → ℕ → Bool
+makes n ss node serial k = mayAdd n ss node serial && eqb k n
 
 abbrev pub names : ℕ → ℕ → ℕ → Bool
 names n j k = ltb j n && eqb k j
 
-unfoldable pub change : Call → ℕ → ℕ → Entry → Change
-change (newHead node) n k e = cond (makes n node k) (making node) nothing
-change (byte b t s) n k e = cond (room s) (hearing e (gather (e .ear) b t)) nothing
-change (tick t) n k e = nothing
-change (named j a) n k e = cond (names n j k) (asked a e) nothing
-change (keys j s r) n k e = cond (names n j k) (pressed s r e) nothing
+unfoldable pub change : Call → ℕ → List ℕ → ℕ → Entry → Change
+change (newHead node serial) n ss k e = cond (makes n ss node serial k) (making node) nothing
+change (byte b t s) n ss k e = cond (room s) (hearing e (gather (e .ear) b t)) nothing
+change (tick t) n ss k e = nothing
+change (named j a) n ss k e = cond (names n j k) (asked a e) nothing
+change (keys j s r) n ss k e = cond (names n j k) (pressed s r e) nothing
 
 unfoldable pub look : {A : Type 0} → Option A → A → A
 look (some v) before = v
@@ -260,17 +269,25 @@ next g ear e =
       keys = cond (g .restarts) 0 (look (g .presses) (e .keys));
     }
 
-abbrev pub entryBy : Call → ℕ → ℕ → Entry → Entry
-entryBy c n k e = next (change c n k e) (earBy c (e .ear)) e
+abbrev pub entryBy : Call → ℕ → List ℕ → ℕ → Entry → Entry
+entryBy c n ss k e = next (change c n ss k e) (earBy c (e .ear)) e
 
 -- ---- the account after these calls
 unfoldable pub account : Calls → Account
-account start = record { count = 0; entry = λ k. record { value = delivered 31; number = 31; isOpen = false; ear = noBytes; offer = 0; keys = 0 } }
+account start =
+    record { count = 0; serials = []; entry = λ k. record { value = delivered 31; number = 31; isOpen = false; ear = noBytes; offer = 0; keys = 0 } }
 account (cs ▸ c) =
-    record { count = grown c (account cs .count); entry = λ k. entryBy c (account cs .count) k (account cs .entry k) }
+    record {
+      count = grown c (account cs .count) (account cs .serials);
+      serials = marked c (account cs .count) (account cs .serials);
+      entry = λ k. entryBy c (account cs .count) (account cs .serials) k (account cs .entry k);
+    }
 
 abbrev pub count : Calls → ℕ
 count cs = account cs .count
+
+abbrev pub serials : Calls → List ℕ
+serials cs = account cs .serials
 
 abbrev pub entry : Calls → ℕ → Entry
 entry cs k = account cs .entry k

@@ -59,8 +59,8 @@ pub record Proposed (k : keeper.Keeper) (check : List Row → Answer) : Type 0 w
   -- a form that is sent back for a number has a free one; given to the row that is named, it is sent back for a later row, or is accepted
   pub has-one : (rows : List Row) (i j : ℕ) → check rows ≡ Repeats Number i j → (n : ℕ) × (proposed k rows ≡ free.Number n)
   pub mends : (rows : List Row) (i j n : ℕ) → check rows ≡ Repeats Number i j → proposed k rows ≡ free.Number n → LaterThan i (check (renumbered rows i n))
-  -- a line that is grown by an accepted form of seven rows at most may be grown on by the number that is proposed
-  pub grows-on : (m : System) → FormsAreSafe m check → (rows : List Row) (n serial : ℕ) → length rows < 8 → check rows ≡ AllDiffer
+  -- a line that is grown by an accepted form of 31 rows at most may be grown on by the number that is proposed
+  pub grows-on : (m : System) → FormsAreSafe m check → (rows : List Row) (n serial : ℕ) → length rows < 32 → check rows ≡ AllDiffer
       → proposed k rows ≡ free.Number n → IsNew serial rows → Ordered m (further rows serial n)
 
 -- it rests on what is promised of the keeper and of the check, and on nothing else

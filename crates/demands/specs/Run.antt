@@ -7,6 +7,7 @@ use mathlib.Core.List.{List, [], _∷_, _++_}
 use lib.ListN.{length, take}
 use Rattle.wire.specs.Telegram.{bytesOf}
 use Rattle.state.specs.declared.parts.Head.{Head}
+use Rattle.state.specs.declared.parts.Ear.{Ear}
 use Rattle.effects.specs.Restart.{emptyEar}
 use Rattle.head.specs.declared.calls.Answer.{Answer}
 use Rattle.head.specs.declared.calls.Called as head-Called
@@ -14,20 +15,20 @@ use Rattle.head.specs.declared.calls.Fed as head-Fed
 use Rattle.head.specs.declared.calls.Heard.{Heard}
 use Rattle.head.specs.declared.calls.Heard.the-variants as heard
 use Rattle.head.specs.declared.calls.Hit.{Hit}
-use Rattle.head.specs.Hear.{withEar}
+use Rattle.head.specs.declared.calls.Serial.{Serial}
 use Rattle.head.specs.Calls as head
 use Rattle.head.specs.Outcome as alone
 use Rattle.line.specs.declared.calls.Line.{Line}
 use Rattle.line.specs.declared.calls.Called.{Called}
 use Rattle.line.specs.declared.calls.Fed.{Fed}
-use Rattle.line.specs.Calls.{emptyOf, headAt, fitsOf, growOf, byteOf, byteSpaceOf, tickOf, measureOf, keysOf, keysSpaceOf, powerOf, lastHitOf, loadOf, saveOf, saveSpaceOf}
+use Rattle.line.specs.Calls.{emptyOf, headAt, fitsOf, growOf, byteOf, byteSpaceOf, tickOf, measureOf, keysOf, keysSpaceOf, powerOf, lastHitOf, loadOf, saveOf, saveSpaceOf, serialNumberOf}
 use Rattle.demands.specs.Calls.{Ask, measure, power, load, Call, newHead, byte, tick, named, keys, Calls, start, _▸_}
 
--- ---- the calls on a head alone: it is made with a node number; a byte, by its time and the length of the space lent, and the space after it;
+-- ---- the calls on a head alone: it is made with a node number and a serial number; a byte, by its time and the length of the space lent, and the space after it;
 -- a tick, a measurement, power, a sheet loaded; what the last damaged telegram was hit by; a key state, by the length of the space lent, and the
--- space after it; a sheet written, by the length of the space lent, and the space after it
+-- space after it; a sheet written, by the length of the space lent, and the space after it; its serial number
 pub record OnHead : Type 0 where
-  pub make : ℕ → head-Called.Called
+  pub make : ℕ → ℕ → head-Called.Called
   pub byte : Head → ℕ → ℕ → ℕ → head-Fed.Fed
   pub space : Head → ℕ → ℕ → List ℕ → List ℕ
   pub ask : alone.Ask → Head → head-Called.Called
@@ -36,11 +37,12 @@ pub record OnHead : Type 0 where
   pub keySpace : Head → ℕ → List ℕ → List ℕ
   pub save : Head → ℕ → Answer
   pub sheet : Head → List ℕ → List ℕ
+  pub serial : Head → Serial
 
--- the calls on a line: it is grown by a node number; a byte; a tick; a call that names a head; what the last damaged telegram that a head heard
--- was hit by; a key state of the head that is named; its sheet
+-- the calls on a line: it is grown by a node number and a serial number; a byte; a tick; a call that names a head; what the last damaged telegram that a head heard
+-- was hit by; a key state of the head that is named; its sheet; its serial number
 pub record OnLine : Type 0 where
-  pub grow : Line → ℕ → Called
+  pub grow : Line → ℕ → ℕ → Called
   pub byte : Line → ℕ → ℕ → ℕ → Fed
   pub space : Line → ℕ → ℕ → List ℕ → List ℕ
   pub tick : Line → ℕ → Called
@@ -50,6 +52,7 @@ pub record OnLine : Type 0 where
   pub keySpace : Line → ℕ → ℕ → List ℕ → List ℕ
   pub save : Line → ℕ → ℕ → Answer
   pub sheet : Line → ℕ → List ℕ → List ℕ
+  pub serial : Line → ℕ → Serial
 
 pub record System : Type 0 where
   pub onHead : OnHead
@@ -74,6 +77,7 @@ product =
         keySpace = head.keysSpaceOf;
         save = head.saveOf;
         sheet = head.saveSpaceOf;
+        serial = head.serialNumberOf;
       };
       onLine = record {
         grow = growOf;
@@ -86,6 +90,7 @@ product =
         keySpace = keysSpaceOf;
         save = saveOf;
         sheet = saveSpaceOf;
+        serial = serialNumberOf;
       };
     }
 
@@ -97,7 +102,7 @@ aloneOf (load s) = alone.load s
 
 -- the line after a call
 unfoldable pub after : OnLine → Call → Line → Line
-after m (newHead node) l = m .grow l node .line
+after m (newHead node serial) l = m .grow l node serial .line
 after m (byte b t s) l = m .byte l b t s .line
 after m (tick t) l = m .tick l t .line
 after m (named j a) l = m .ask a l j .line
@@ -116,14 +121,28 @@ pub record Machine : Type 1 where
   pub count : Line → ℕ
   pub fits : Line → Bool
   pub headOf : Line → ℕ → Head
-  -- a head's number in force, its stored values, and the head with no bytes gathered
+  -- a head's number in force, its serial number, its stored values, and the head with no bytes gathered
   pub number : Head → ℕ
+  pub serial : Head → ℕ
   pub values : Head → List ℕ
   pub emptied : Head → Head
   -- a byte call on it alone, by byte, time and space lent: the head after it, what it returns, and the space
   pub fed : Head → ℕ → ℕ → List ℕ → Head
   pub told : Head → ℕ → ℕ → List ℕ → Heard
   pub space : Head → ℕ → ℕ → List ℕ → List ℕ
+
+-- the head with these bytes gathered, and nothing else of it changed
+abbrev pub withEar : Head → Ear → Head
+withEar h e =
+    record {
+      stored = h .stored;
+      faults = h .faults;
+      measurement = h .measurement;
+      targets = h .targets;
+      monitor = h .monitor;
+      ear = e;
+      keys = h .keys;
+    }
 
 -- a system as a machine
 abbrev pub machineOf : System → Machine
@@ -138,6 +157,7 @@ machineOf m =
       fits = fitsOf;
       headOf = headAt;
       number = λ h. h .stored .number;
+      serial = λ h. h .stored .serial;
       values = λ h. h .stored .values;
       emptied = λ h. withEar h (emptyEar 0);
       fed = λ h b t s. m .onHead .byte h b t (length s) .head;

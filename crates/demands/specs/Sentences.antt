@@ -34,7 +34,7 @@ told steps replies = record { steps = steps; replies = replies }
 
 abbrev pub All : List Told → Type 0
 All [] = Unit {0}
-All (t ∷ ts) = (answered (t .steps) (freshOf 31) ≡ map (split 10) (t .replies)) × All ts
+All (t ∷ ts) = (answered (t .steps) (freshOf 31 0) ≡ map (split 10) (t .replies)) × All ts
 
 unfoldable pub sentences : List Told
 sentences =

@@ -6,6 +6,7 @@ use mathlib.Core.Path.{_≡_}
 use mathlib.Core.Bool.{true}
 use mathlib.Core.Logic.{_≢_}
 use lib.IntN.{ℤ, natAbs}
+use lib.ListN.{length, getD}
 use Rattle.rows.specs.Table.{rowOf}
 use Rattle.rows.specs.Ranges.{fitsIn, allRightOf}
 use Rattle.state.specs.declared.parts.Head.{Head}
@@ -36,13 +37,18 @@ pub record Formed (h : Head) : Type 0 where
   pub start : InReach (h .measurement .start)
   pub kept : natAbs (h .measurement .kept) ≤ 5242880
 
--- at most eight heads, and each below the count so; what stands past the count does not matter
+-- at most 32 heads, each below the count so, and no two of them with one serial number (document 02, request (xi)); what stands past the count does
+-- not matter
 pub record LineFormed (l : Line) : Type 0 where
-  pub few : l .count ≤ 8
+  pub few : l .count ≤ 32
   pub heads : (k : ℕ) → k < l .count → wellformedOf (headAt l k) ≡ true
+  pub serials : (i j : ℕ) → i < l .count → j < l .count → i ≢ j → headAt l i .stored .serial ≢ headAt l j .stored .serial
 
 pub record Twenty : Type 0 where
   pub head-passed : (h : Head) → wellformedOf h ≡ true → Formed h
   pub head-passes : (h : Head) → Formed h → wellformedOf h ≡ true
-  pub line-passed : (l : Line) → fitsOf l ≡ true → LineFormed l
-  pub line-passes : (l : Line) → LineFormed l → fitsOf l ≡ true
+  -- a line has its 32 places by its type
+  pub line-passed : (l : Line) → length (l .heads) ≡ 32 → fitsOf l ≡ true → LineFormed l
+  pub line-passes : (l : Line) → length (l .heads) ≡ 32 → LineFormed l → fitsOf l ≡ true
+  -- head k of a line stands at its kth place
+  pub place : (l : Line) (k : ℕ) (h : Head) → k < length (l .heads) → headAt l k ≡ getD (l .heads) k h

@@ -16,7 +16,7 @@ use Rattle.head.specs.declared.refusal.Refusal.the-variants.{Node, OutOfReach}
 use Rattle.head.specs.declared.calls.Heard.{Heard}
 use Rattle.head.specs.declared.calls.Heard.the-variants as heard
 use Rattle.head.specs.declared.calls.Hit.the-variants as hit
-use Rattle.head.specs.Hear.{withEar}
+use Rattle.head.specs.declared.calls.Serial.the-variants as serial
 use Rattle.head.specs.declared.calls.Answer.the-variants as answer
 use Rattle.head.specs.Calls as head
 use Rattle.head.specs.Outcome as alone
@@ -24,7 +24,7 @@ use Rattle.line.specs.declared.calls.Line.{Line}
 use Rattle.line.specs.declared.calls.Called.{Called}
 use Rattle.line.specs.Calls as line
 use Rattle.demands.specs.Calls.{Ask, Call, newHead, byte, tick, named, keys}
-use Rattle.demands.specs.Run.{OnHead, OnLine, System, product, askOf, after, Machine, machineOf}
+use Rattle.demands.specs.Run.{OnHead, OnLine, System, product, askOf, after, Machine, withEar, machineOf}
 use Rattle.demands.specs.Demand1.{Demand1}
 use Rattle.demands.specs.Demand2.{Demand2}
 use Rattle.demands.specs.Demand3.{Demand3}
@@ -34,7 +34,7 @@ abbrev pub refusing : Refusal → System
 refusing why =
     record {
       onHead = record {
-        make = λ node. head.refusedWith head.factoryOf why;
+        make = λ node serial. head.refusedWith (head.factoryOf serial) why;
         byte = λ h b t n. record { head = h; heard = heard.Refused why };
         space = λ h b t s. s;
         ask = λ a h. head.refusedWith h why;
@@ -43,9 +43,10 @@ refusing why =
         keySpace = λ h s x. x;
         save = λ h n. answer.Refused why;
         sheet = λ h x. x;
+        serial = λ h. serial.Refused why;
       };
       onLine = record {
-        grow = λ l node. line.refusedWith l why;
+        grow = λ l node serial. line.refusedWith l why;
         byte = λ l b t n. record { line = l; heard = heard.Refused why };
         space = λ l b t s. s;
         tick = λ l t. line.refusedWith l why;
@@ -55,6 +56,7 @@ refusing why =
         keySpace = λ l j s x. x;
         save = λ l j n. answer.Refused why;
         sheet = λ l j x. x;
+        serial = λ l j. serial.Refused why;
       };
     }
 
@@ -72,9 +74,10 @@ unchanging =
         keySpace = head.keysSpaceOf;
         save = head.saveOf;
         sheet = head.saveSpaceOf;
+        serial = head.serialNumberOf;
       };
       onLine = record {
-        grow = λ l node. record { line = l; answer = line.growOf l node .answer };
+        grow = λ l node serial. record { line = l; answer = line.growOf l node serial .answer };
         byte = λ l b t n. record { line = l; heard = line.byteOf l b t n .heard };
         space = line.byteSpaceOf;
         tick = λ l t. record { line = l; answer = line.tickOf l t .answer };
@@ -84,6 +87,7 @@ unchanging =
         keySpace = line.keysSpaceOf;
         save = line.saveOf;
         sheet = line.saveSpaceOf;
+        serial = line.serialNumberOf;
       };
     }
 
@@ -101,6 +105,7 @@ counting k =
         keySpace = head.keysSpaceOf;
         save = head.saveOf;
         sheet = head.saveSpaceOf;
+        serial = head.serialNumberOf;
       };
       onLine = record {
         grow = line.growOf;
@@ -113,6 +118,7 @@ counting k =
         keySpace = line.keysSpaceOf;
         save = line.saveOf;
         sheet = line.saveSpaceOf;
+        serial = line.serialNumberOf;
       };
     }
 
@@ -136,6 +142,7 @@ headSaying f =
       keySpace = head.keysSpaceOf;
       save = head.saveOf;
       sheet = head.saveSpaceOf;
+      serial = head.serialNumberOf;
     }
 
 abbrev pub lineSaying : (List ℕ → List ℕ) → OnLine
@@ -151,6 +158,7 @@ lineSaying f =
       keySpace = line.keysSpaceOf;
       save = line.saveOf;
       sheet = line.saveSpaceOf;
+      serial = line.serialNumberOf;
     }
 
 -- the same reply always
@@ -175,7 +183,7 @@ zeroing = record { onHead = product .onHead; onLine = lineSaying (λ r. replicat
 abbrev pub baudOfNode : Head → Head
 baudOfNode h =
     let s = h .stored in
-    withStored h (record { values = s .values; number = s .number; baud = valueAt (s .values) nodePlace; offer = s .offer; unlocked = s .unlocked })
+    withStored h (record { values = s .values; number = s .number; baud = valueAt (s .values) nodePlace; offer = s .offer; serial = s .serial; unlocked = s .unlocked })
 
 abbrev pub IdlePower : System → Type 0
 IdlePower m = (h : Head) → m .onHead .ask alone.power h ≡ head.doneWith h
@@ -189,13 +197,13 @@ BaudOfNode m = (h : Head) → m .onHead .ask alone.power h ≡ head.doneWith (ba
 abbrev pub forgotten : Head → Head
 forgotten h =
     let s = h .stored in
-    withStored h (record { values = set (s .values) 4 6; number = s .number; baud = s .baud; offer = s .offer; unlocked = s .unlocked })
+    withStored h (record { values = set (s .values) 4 6; number = s .number; baud = s .baud; offer = s .offer; serial = s .serial; unlocked = s .unlocked })
 
 abbrev pub Forgets : System → Type 0
 Forgets m = (h : Head) → m .onHead .ask alone.power h ≡ head.doneWith (forgotten (restartedOf h))
 
 abbrev pub SevenMade : System → Type 0
-SevenMade m = m .onHead .make 0 ≡ head.refusedWith (freshOf 7) Node
+SevenMade m = m .onHead .make 0 0 ≡ head.refusedWith (freshOf 7 0) Node
 
 -- ---- wrong in a call on a line that names a head: head 0 becomes what the named one does; a key state above 7 is refused with 4
 abbrev pub firstToo : Called → ℕ → Called
@@ -238,7 +246,7 @@ abbrev pub echoedHead : EchoHead → Head → EchoHead
 echoedHead h new = record { head = cond (h .done) (unwritten (h .head) new) new; done = h .done || new .monitor .running }
 
 abbrev pub echoAfter : Call → EchoLine → EchoLine
-echoAfter (newHead node) l = record { line = after (product .onLine) (newHead node) (l .line); done = l .done }
+echoAfter (newHead node serial) l = record { line = after (product .onLine) (newHead node serial) (l .line); done = l .done }
 echoAfter (byte b t s) l = echoedLine l (after (product .onLine) (byte b t s) (l .line))
 echoAfter (tick t) l = record { line = after (product .onLine) (tick t) (l .line); done = l .done }
 echoAfter (named j a) l = record { line = after (product .onLine) (named j a) (l .line); done = l .done }
@@ -256,6 +264,7 @@ echoing =
       fits = λ l. line.fitsOf (l .line);
       headOf = λ l k. record { head = line.headAt (l .line) k; done = l .done };
       number = λ h. h .head .stored .number;
+      serial = λ h. h .head .stored .serial;
       values = λ h. h .head .stored .values;
       emptied = λ h. record { head = withEar (h .head) (emptyEar 0); done = h .done };
       fed = λ h b t s. echoedHead h (head.byteOf (h .head) b t (length s) .head);
@@ -267,7 +276,7 @@ echoing =
 abbrev pub atOnce : Head → Head
 atOnce h =
     let s = h .stored in
-    withStored h (record { values = s .values; number = valueAt (s .values) nodePlace; baud = s .baud; offer = s .offer; unlocked = s .unlocked })
+    withStored h (record { values = s .values; number = valueAt (s .values) nodePlace; baud = s .baud; offer = s .offer; serial = s .serial; unlocked = s .unlocked })
 
 abbrev pub atOnceAll : List Head → List Head
 atOnceAll [] = []
@@ -290,6 +299,7 @@ hasty =
         keySpace = line.keysSpaceOf;
         save = line.saveOf;
         sheet = line.saveSpaceOf;
+        serial = line.serialNumberOf;
       };
     }
 

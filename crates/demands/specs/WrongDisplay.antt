@@ -26,7 +26,7 @@ use Rattle.demands.specs.WrongWords.{Wording, Fails}
 -- ---- heads at 31
 -- 28h is 3; FBh holds JOB7, valid, as characters; FFh 0, valid, too; and both are acknowledged, by left
 abbrev pub blank : Head
-blank = heardTen 0x011F2800000000000335 (freshOf 31)
+blank = heardTen 0x011F2800000000000335 (freshOf 31 0)
 
 abbrev pub job : Head
 job = heardTen 0x011FFB00844A4F423711 blank
@@ -42,7 +42,7 @@ taken = pressedLeft both
 
 -- set point 2 is 0 and valid outside that mode: it is reached, and the static bit is set
 abbrev pub reached : Head
-reached = heardTen 0x011FFF020000000000E3 (freshOf 31)
+reached = heardTen 0x011FFF020000000000E3 (freshOf 31 0)
 
 -- an error is pending; star acknowledges too; both; m is 100
 abbrev pub faulty : Head
@@ -58,7 +58,7 @@ abbrev pub moved : Head → Head
 moved h = measuredOf h (pos 100)
 
 abbrev pub pair : Line
-pair = record { heads = set (set (line.emptyOf .heads) 0 job) 1 job; count = 2 }
+pair = record { heads = set (set (line.emptyOf .heads) 0 (freshOf 12 1)) 1 job; count = 2 }
 
 -- ---- a head that is otherwise in its targets
 abbrev pub withFlags : Bool → Bool → Bool → Bool → Bool → Head → Head
@@ -144,7 +144,7 @@ pub record WrongDisplay : Type 0 where
   -- an acknowledgement is kept over a write; given to an invalid set point; given outside the mode; not given to the other set point; given by the other bit
   pub kept-fails : Wrong2 (Hears (gathered taken 0x011FFB00844A4F4237) 0x11 (withFlags true true false true true))
   pub invalid-fails : Wrong2 (Hears (gathered blank 0x011FFB04004A4F4237) 0x91 (withFlags false false false true false))
-  pub outside-fails : Wrong2 (Hears (gathered (freshOf 31) 0x011FFB04044A4F4237) 0x95 (withFlags true false false true false))
+  pub outside-fails : Wrong2 (Hears (gathered (freshOf 31 0) 0x011FFB04044A4F4237) 0x95 (withFlags true false false true false))
   pub own-only-fails : Wrong2 (Hears (gathered job 0x011FFF060000000000) 0xE7 (withFlags true true false false false))
   pub other-bit-fails : Wrong2 (Hears (gathered blank 0x011FFB00444A4F4237) 0xD1 (withFlags true false false true false))
   -- a write of FFh sets the static bit, and so does a measurement

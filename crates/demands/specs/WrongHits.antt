@@ -12,7 +12,7 @@ use Rattle.wire.specs.Telegram.{fieldsOf}
 use Rattle.judge.specs.Judged.{judgedOf}
 use Rattle.state.specs.declared.parts.Head.{Head}
 use Rattle.effects.specs.Restart.{restartedOf, freshOf}
-use Rattle.head.specs.Hear.{gatheredOf, standingOf, restartsOf, tellOf, withEar}
+use Rattle.head.specs.Hear.{gatheredOf, standingOf, restartsOf, tellOf}
 use Rattle.head.specs.declared.calls.Heard.the-variants as heard
 use Rattle.head.specs.declared.calls.Hit.the-variants.{Bits}
 use Rattle.head.specs.Calls as head
@@ -20,7 +20,7 @@ use Rattle.head.specs.Outcome as alone
 use Rattle.line.specs.declared.calls.Line.{Line}
 use Rattle.line.specs.Round.{each}
 use Rattle.line.specs.Calls as line
-use Rattle.demands.specs.Run.{System, product, askOf}
+use Rattle.demands.specs.Run.{System, product, withEar, askOf}
 use Rattle.demands.specs.Demand2.{Demand2}
 use Rattle.demands.specs.Hits.{Hits}
 use Rattle.demands.specs.Unseen.{keeping, Unseen}
@@ -54,6 +54,7 @@ keepingBy f =
         keySpace = line.keysSpaceOf;
         save = line.saveOf;
         sheet = line.saveSpaceOf;
+        serial = line.serialNumberOf;
       };
     }
 
@@ -96,13 +97,14 @@ muted =
         keySpace = head.keysSpaceOf;
         save = head.saveOf;
         sheet = head.saveSpaceOf;
+        serial = head.serialNumberOf;
       };
       onLine = product .onLine;
     }
 
 -- a line of two heads, of which the second keeps 5; what is shown of the first
 abbrev pub pair : Line
-pair = record { heads = set (set (line.emptyOf .heads) 0 (freshOf 31)) 1 (keeping (freshOf 12) 5); count = 2 }
+pair = record { heads = set (set (line.emptyOf .heads) 0 (freshOf 31 0)) 1 (keeping (freshOf 12 1) 5); count = 2 }
 
 pub record WrongHits : Type 0 where
   pub zero-kept-fails : Hits zeroKept → ⊥
@@ -113,5 +115,5 @@ pub record WrongHits : Type 0 where
   pub kept-at-power-fails : (m : System) → KeptAtPower m → Demand2 m → ⊥
   pub muted-fails : Unseen muted → ⊥
   -- nothing is shown of what is kept; the first head's is shown for that of the head that is named
-  pub nothing-shown-fails : (m : System) → m .onHead .hit (keeping (freshOf 31) 5) ≡ Bits 0 → Demand2 m → ⊥
-  pub first-shown-fails : (m : System) → m .onLine .hit pair 1 ≡ m .onHead .hit (freshOf 31) → Demand2 m → ⊥
+  pub nothing-shown-fails : (m : System) → m .onHead .hit (keeping (freshOf 31 0) 5) ≡ Bits 0 → Demand2 m → ⊥
+  pub first-shown-fails : (m : System) → m .onLine .hit pair 1 ≡ m .onHead .hit (freshOf 31 0) → Demand2 m → ⊥

@@ -52,6 +52,7 @@ eager =
         keySpace = line.keysSpaceOf;
         save = line.saveOf;
         sheet = line.saveSpaceOf;
+        serial = line.serialNumberOf;
       };
     }
 
@@ -71,7 +72,7 @@ StoredOnly m =
     (h : Head) (n : ℕ)
     → let s = keyedOf h 4 .head .stored in
     m .onHead .keys h 4 n .head
-    ≡ withStored (keyedOf h 4 .head) (record { values = s .values; number = 31; baud = s .baud; offer = s .offer; unlocked = s .unlocked })
+    ≡ withStored (keyedOf h 4 .head) (record { values = s .values; number = 31; baud = s .baud; offer = s .offer; serial = s .serial; unlocked = s .unlocked })
 
 -- leaves the keys down
 abbrev pub KeysDown : System → Type 0

@@ -13,19 +13,18 @@ use Rattle.sheet.specs.declared.refusal.Refusal.the-variants.{OutOfRow}
 use Rattle.head.specs.declared.refusal.Refusal.{Refusal}
 use Rattle.head.specs.declared.refusal.Refusal.the-variants.{Sheet}
 use Rattle.head.specs.declared.calls.Answer.the-variants.{Done, Refused}
-use Rattle.head.specs.Hear.{withEar}
 use Rattle.head.specs.Calls as head
 use Rattle.head.specs.Outcome as alone
 use Rattle.line.specs.declared.calls.Line.{Line}
 use Rattle.line.specs.Calls as line
 use Rattle.demands.specs.Cases.{split}
-use Rattle.demands.specs.Run.{System}
+use Rattle.demands.specs.Run.{System, withEar}
 use Rattle.demands.specs.Demand1.{Demand1}
 use Rattle.demands.specs.Sheets.{Sheets}
 
 -- a new head, and one that is locked
 abbrev pub new : Head
-new = freshOf 31
+new = freshOf 31 0
 
 abbrev pub locked : Head
 locked = withStored new (withValues (new .stored) (set (new .stored .values) 14 1))
@@ -89,7 +88,7 @@ fewRows m = m .onHead .sheet new (replicate 274 1) ≡ set (head.saveSpaceOf new
 
 -- on a line of heads at 31 and at 12 the first head's sheet for that of the second
 abbrev pub pair : Line
-pair = record { heads = set (set (line.emptyOf .heads) 0 new) 1 (freshOf 12); count = 2 }
+pair = record { heads = set (set (line.emptyOf .heads) 0 new) 1 (freshOf 12 1); count = 2 }
 
 abbrev pub firstSaved : System → Type 0
 firstSaved m = m .onLine .sheet pair 1 (replicate 274 1) ≡ m .onHead .sheet new (replicate 274 1)
@@ -113,4 +112,4 @@ pub record WrongSheets : Type 0 where
   pub overrun-fails : (m : System) → m .onHead .save new 275 ≡ Done → overrun m → Sheets m → ⊥
   pub low-first-fails : (m : System) → m .onHead .save new 274 ≡ Done → lowFirst m → Sheets m → ⊥
   pub few-rows-fails : (m : System) → m .onHead .save new 274 ≡ Done → fewRows m → Sheets m → ⊥
-  pub first-saved-fails : (m : System) → m .onHead .save new 274 ≡ Done → m .onHead .save (freshOf 12) 274 ≡ Done → firstSaved m → Sheets m → ⊥
+  pub first-saved-fails : (m : System) → m .onHead .save new 274 ≡ Done → m .onHead .save (freshOf 12 1) 274 ≡ Done → firstSaved m → Sheets m → ⊥

@@ -247,10 +247,10 @@ adopted-keeps h e w =
     let l = offer-told (h .stored .number) (h .stored .offer) (s .offer) .0 in
     restarted-fits _ (all-right-set (h .stored .values) nodePlace (h .stored .offer) (s .values) (node-fits (h .stored .offer) (omega arith) (omega arith))) (k .faults) (k .measurement)
 
-pub fresh-keeps : (node : ℕ) → fitsIn (rowOf nodePlace) node ≡ true → wellformedOf (freshOf node) ≡ true
+pub fresh-keeps : (node serial : ℕ) → fitsIn (rowOf nodePlace) node ≡ true → wellformedOf (freshOf node serial) ≡ true
 unfolding freshOf deliveredOf emptyList rowOf rows
-fresh-keeps node f =
-    restarted-fits (unpowered node) (all-right-set _ nodePlace node delivery-right f)
+fresh-keeps node serial f =
+    restarted-fits (unpowered node serial) (all-right-set _ nodePlace node delivery-right f)
     (faults-holds _ (record { memory = omega arith; inputs = omega arith; damaged = omega arith }))
     (measurement-holds _
     (record { m = zero-reach; zero = zero-reach; start = zero-reach; adopted = delivery-fits calibrationPlace (omega arith); kept = omega arith }))

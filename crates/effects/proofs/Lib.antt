@@ -3,3 +3,4 @@ pub mod Rest
 pub mod Values
 pub mod Keeps
 pub mod Turns
+pub mod Serial

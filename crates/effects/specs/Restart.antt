@@ -1,8 +1,8 @@
--- The restart, and a head as it is made (document 01, "Restart (A0h 9, power)" of "What each one does"; Auto-ID: document 02, request
--- (ii)).
+-- The restart, and a head as it is made (document 01, "Restart (A0h 9, power)" of "What each one does"; Auto-ID and serial numbers: document 02,
+-- requests (ii) and (xi)).
 -- Assumes nothing.
 use Prim.Native.Nat.{ℕ}
-use mathlib.Core.Bool.{true, false}
+use mathlib.Core.Bool.{false}
 use mathlib.Core.List.{List, map}
 use lib.IntN.{pos}
 use lib.ListN.{set, replicate}
@@ -10,7 +10,6 @@ use Rattle.rows.specs.Table.{rows, delivery}
 use Rattle.state.specs.declared.parts.Head.{Head}
 use Rattle.state.specs.declared.parts.Stored.{Stored}
 use Rattle.state.specs.declared.parts.Faults.{Faults}
-use Rattle.state.specs.declared.parts.Measurement.{Measurement}
 use Rattle.state.specs.declared.parts.Monitor.{Monitor}
 use Rattle.state.specs.declared.parts.Ear.{Ear}
 use Rattle.state.specs.Settings.{nodePlace}
@@ -27,7 +26,7 @@ emptyEar at = record { bytes = replicate 10 0; count = 0; at = at }
 unfoldable pub stopped : Monitor
 stopped = record { running = false; since = 0 }
 
--- keeps the 39, interlock, error memory, calibration and last measurement; takes 00h and 01h into force; clears everything else
+-- keeps the 39, the serial number, interlock, error memory, calibration and last measurement; takes 00h and 01h into force; clears everything else
 unfoldable pub restartedOf : Head → Head
 restartedOf h =
     record {
@@ -61,11 +60,11 @@ adoptedOf h = restartedOf (withStored h (adoptedStored (h .stored)))
 unfoldable pub deliveredOf : ℕ → List ℕ
 deliveredOf node = set (map delivery rows) nodePlace node
 
--- a head before it is first switched on: interlock closed, nothing measured or calibrated, no error
-abbrev pub unpowered : ℕ → Head
-unpowered node =
+-- a head before it is first switched on: its serial number, interlock closed, nothing measured or calibrated, no error
+abbrev pub unpowered : ℕ → ℕ → Head
+unpowered node serial =
     record {
-      stored = record { values = deliveredOf node; number = 0; baud = 0; offer = 0; unlocked = false };
+      stored = record { values = deliveredOf node; number = 0; baud = 0; offer = 0; serial = serial; unlocked = false };
       faults = record { memory = emptyList; inputs = emptyList; pending = 0; hit = 0; damaged = 0 };
       measurement = record { m = pos 0; zero = pos 0; adopted = 0; incremental = false; start = pos 0; frozen = false; kept = pos 0 };
       targets = noTargets;
@@ -75,5 +74,5 @@ unpowered node =
     }
 
 -- a new head is as after a restart, its error memory empty
-unfoldable pub freshOf : ℕ → Head
-freshOf node = restartedOf (unpowered node)
+unfoldable pub freshOf : ℕ → ℕ → Head
+freshOf node serial = restartedOf (unpowered node serial)

@@ -1,4 +1,4 @@
--- What a deed does to the stored part (document 01, "What each one does"; an offer: document 02, request (ii)). Demand 3 speaks of this part alone.
+-- What a deed does to the stored part (document 01, "What each one does"; an offer and the serial number: document 02, requests (ii) and (xi)). Demand 3 speaks of this part alone.
 -- Assumes nothing.
 use Prim.Native.Nat.{ℕ, suc}
 use mathlib.Core.Bool.{Bool, cond, not, _&&_}
@@ -17,13 +17,13 @@ unfoldable pub lockedOf : Stored → Bool
 lockedOf s = eqb (valueAt (s .values) interlockPlace) 1 && not (s .unlocked)
 
 abbrev pub withValues : Stored → List ℕ → Stored
-withValues s vs = record { values = vs; number = s .number; baud = s .baud; offer = s .offer; unlocked = s .unlocked }
+withValues s vs = record { values = vs; number = s .number; baud = s .baud; offer = s .offer; serial = s .serial; unlocked = s .unlocked }
 
 abbrev pub withLock : Stored → Bool → Stored
-withLock s b = record { values = s .values; number = s .number; baud = s .baud; offer = s .offer; unlocked = b }
+withLock s b = record { values = s .values; number = s .number; baud = s .baud; offer = s .offer; serial = s .serial; unlocked = b }
 
 abbrev pub withOffer : Stored → ℕ → Stored
-withOffer s n = record { values = s .values; number = s .number; baud = s .baud; offer = n; unlocked = s .unlocked }
+withOffer s n = record { values = s .values; number = s .number; baud = s .baud; offer = n; serial = s .serial; unlocked = s .unlocked }
 
 -- the value at a place after a system command: what the command touches takes its delivery value
 unfoldable pub resetValue : ℕ → ℕ → ℕ → ℕ
@@ -41,10 +41,10 @@ resetOf command vs = resetFrom 0 command vs
 unfoldable pub adoptedStored : Stored → Stored
 adoptedStored s = withValues s (set (s .values) nodePlace (s .offer))
 
--- a restart keeps the 39 and the interlock, takes 00h and 01h into force, and drops an offer
+-- a restart keeps the 39, the serial number and the interlock, takes 00h and 01h into force, and drops an offer
 unfoldable pub restartedStored : Stored → Stored
 restartedStored s =
-    record { values = s .values; number = valueAt (s .values) nodePlace; baud = valueAt (s .values) baudPlace; offer = 0; unlocked = s .unlocked }
+    record { values = s .values; number = valueAt (s .values) nodePlace; baud = valueAt (s .values) baudPlace; offer = 0; serial = s .serial; unlocked = s .unlocked }
 
 -- what a deed does to it; a restart is of the whole head, and comes after (Restart)
 unfoldable pub storedBy : Deed → Stored → Stored

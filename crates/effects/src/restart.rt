@@ -68,8 +68,8 @@ fn delivered(node: u32) -> [u32; 39]
 }
 
 // A new head is as after a restart, its error memory empty.
-pub fn fresh(node: u32) -> Head
-    ensures { λ r. ⌜ r ≡ freshOf node ⌝ }
+pub fn fresh(node: u32, serial: u32) -> Head
+    ensures { λ r. ⌜ r ≡ freshOf node serial ⌝ }
 {
     let empty = state::errors::empty_list();
     let h = Head {
@@ -78,6 +78,7 @@ pub fn fresh(node: u32) -> Head
             number: 0,
             baud: 0,
             offer: 0,
+            serial: serial,
             unlocked: false,
         },
         faults: Faults {

@@ -1,4 +1,4 @@
-// The stored part: the 39 values, the number and the baud setting in force, the number that is offered, the interlock.
+// The stored part: the 39 values, the number and the baud setting in force, the number that is offered, the serial number, the interlock.
 use judge::deed::Deed;
 use state::parts::Setting;
 use state::parts::Stored;

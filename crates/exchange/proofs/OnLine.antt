@@ -58,7 +58,7 @@ module _ (space : List ℕ) (wide : 10 ≤ length space) (τ : ℕ → ℕ) wher
 
   module _ (l : Line) (f : Fits l) (b t : ℕ) where
     next-fits : Fits (next l b t)
-    next-fits = let k = byte-keeps l b t (length space) in record { fits = k .0 (f .fits); places = k .1 ∙ f .places }
+    next-fits = let k = byte-keeps l b t (length space) in record { fits = k .fits (f .fits); places = k .places ∙ f .places }
 
     next-count : next l b t .count ≡ l .count
     next-count = line-count l b t space f wide

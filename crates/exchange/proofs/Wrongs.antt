@@ -43,7 +43,7 @@ bounded limit some (x ∷ xs) e (suc i) = bounded limit some xs (and-eq-true-iff
 
 -- ---- a head at 31 as it is made is ready, and so is a line of it alone
 abbrev new : Head
-new = freshOf 31
+new = freshOf 31 0
 
 new-typed : Typed new
 unfolding computing
@@ -64,7 +64,7 @@ unfolding computing
 new-ready = record { typed = new-typed; well = refl; none = refl }
 
 abbrev alone : Line
-alone = line.growOf line.emptyOf 31 .line
+alone = line.growOf line.emptyOf 31 0 .line
 
 alone-quiet : Quiet alone
 unfolding computing
@@ -131,7 +131,7 @@ answered m e q a due some exchange = some (ap length (exchange .silent q (λ i. 
 
 -- ---- a reply of a head at 12, and one of a head at 31, to a read of 20h, whose tenth bytes are 2Ch and 3Fh
 abbrev asked12 : Head
-asked12 = gathered (freshOf 12) 0x000C20000000000000
+asked12 = gathered (freshOf 12 0) 0x000C20000000000000
 
 abbrev asked31 : Head
 asked31 = gathered new 0x001F20000000000000

@@ -20,7 +20,7 @@ pub record Premises : Type 0 where
   pub asks : (q : Telegram) → wire.Fits q → q .command ≤ 2 → q .node ≤ 127 → Asks q
   pub given : (τ : ℕ → ℕ) (space : List ℕ) → ((i : ℕ) → since (τ (suc i)) (τ i) ≤ 10) → 10 ≤ length space → Given τ space
   pub ready : (h : Head) → Typed h → wellformedOf h ≡ true → h .ear .count ≡ 0 → Ready h
-  pub quiet : (l : Line) → fitsOf l ≡ true → length (l .heads) ≡ 8
+  pub quiet : (l : Line) → fitsOf l ≡ true → length (l .heads) ≡ 32
       → ((k : ℕ) → k < l .count → Typed (headAt l k) × (headAt l k .ear .count ≡ 0))
       → ((j k : ℕ) → j < l .count → k < l .count → j ≢ k → headAt l j .stored .number ≢ headAt l k .stored .number)
       → Quiet l

@@ -79,7 +79,7 @@ pub record Tried : Type 0 where
       ∷ gives (reads 31 0x96 0x01000000) 0x01000083
       ∷ errs (reads 31 0x96 0x09000000) 0x0282
       ∷ []
-      ) (freshOf 31)
+      ) (freshOf 31 0)
   -- locked: what is refused then, and how it is opened
   pub locks : Talk (
       gives (writes 31 0x0E 1) 1
@@ -88,11 +88,11 @@ pub record Tried : Type 0 where
       ∷ gives (writes 31 0x04 6) 6
       ∷ gives (reads 31 0x04 0) 6
       ∷ []
-      ) (freshOf 31)
+      ) (freshOf 31 0)
   -- FDh: a read of it is a value, also where the value is an error's code (three damaged telegrams raise 0080h); a write of it is an error
-  pub errors : Talk (gives (reads 31 0xFD 0) 0 ∷ errs (writes 31 0xFD 5) 0x0184 ∷ []) (freshOf 31)
+  pub errors : Talk (gives (reads 31 0xFD 0) 0 ∷ errs (writes 31 0xFD 5) 0x0184 ∷ []) (freshOf 31 0)
   pub pending : Talk (gives (reads 31 0xFD 0) 0x0080 ∷ errs (writes 31 0xFD 0x0080) 0x0184 ∷ [])
-      (let damaged = 0 ∷ 31 ∷ 0x20 ∷ 0 ∷ 0 ∷ 0 ∷ 0 ∷ 0 ∷ 0 ∷ 0 ∷ [] in heardAll damaged 0 (heardAll damaged 0 (heardAll damaged 0 (freshOf 31))))
+      (let damaged = 0 ∷ 31 ∷ 0x20 ∷ 0 ∷ 0 ∷ 0 ∷ 0 ∷ 0 ∷ 0 ∷ 0 ∷ [] in heardAll damaged 0 (heardAll damaged 0 (heardAll damaged 0 (freshOf 31 0))))
   -- silence: a broadcast, done or not; another node, and node 0
   pub silences : Talk (
       silence (casts 0xAA 1)
@@ -102,7 +102,7 @@ pub record Tried : Type 0 where
       ∷ silence (writes 12 0x04 90)
       ∷ gives (reads 31 0xFA 0) 0x0100
       ∷ []
-      ) (freshOf 31)
+      ) (freshOf 31 0)
   -- Auto-ID: an offer draws no reply, out of its range an error, and so does one where the number in force is not 31
   pub offers : Talk (
       silence (writes 31 0xD2 1)
@@ -111,8 +111,8 @@ pub record Tried : Type 0 where
       ∷ errs (writes 31 0xD2 32) 0x0282
       ∷ errs (reads 31 0xD2 5) 0x0284
       ∷ []
-      ) (freshOf 31)
-  pub refused-offers : Talk (errs (writes 12 0xD2 5) 0x0085 ∷ errs (writes 12 0xD2 32) 0x0085 ∷ []) (freshOf 12)
+      ) (freshOf 31 0)
+  pub refused-offers : Talk (errs (writes 12 0xD2 5) 0x0085 ∷ errs (writes 12 0xD2 32) 0x0085 ∷ []) (freshOf 12 0)
   -- a set point's write is answered by 03h: the set point, the current value, the differential value
   pub aims-answered : Talk (
       gives (aims 31 0x0200 100) 100
@@ -123,7 +123,7 @@ pub record Tried : Type 0 where
       ∷ gives (reads 31 0xFF 0) 100
       ∷ gives (reads 31 0xFC 0) 4294967196
       ∷ []
-      ) (freshOf 31)
+      ) (freshOf 31 0)
   -- a new number is read back at once, and in force after A0h 9
   pub numbers : Talk (
       gives (writes 31 0x00 12) 12
@@ -133,4 +133,4 @@ pub record Tried : Type 0 where
       ∷ silence (reads 31 0x00 0)
       ∷ gives (reads 12 0x00 0) 12
       ∷ []
-      ) (freshOf 31)
+      ) (freshOf 31 0)

@@ -70,13 +70,13 @@ fn settings_typed(h: Head)
 }
 
 fn line_typed(l: Line)
-    ensures { λ r. ⌜ length (l .heads) ≡ 8 ⌝ }
+    ensures { λ r. ⌜ length (l .heads) ≡ 32 ⌝ }
 {}
 
 fn head_typed(l: Line, k: usize)
-    ensures { λ r. ⌜ (k < 8 → Typed (headAt l k)) ⌝ }
+    ensures { λ r. ⌜ (k < 32 → Typed (headAt l k)) ⌝ }
 {
-    if k < 8 {
+    if k < 32 {
         typed(l.heads[k]);
     }
 }

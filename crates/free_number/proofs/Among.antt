@@ -1,8 +1,8 @@
--- The numbers of a list, by their places, and how many different ones there are: as many as places where all differ, fewer where two do not.
+-- How many different numbers a list has: as many as places where all differ, fewer where two do not.
 -- Assumes nothing.
 use Prim.Native.Nat.{ℕ, zero, suc, _≤_, _<_}
 use mathlib.Core.Path.{_≡_, refl, sym, ap, _∙_}
-use mathlib.Core.Bool.{Bool, true, false, cond, _||_, or-true, or-false}
+use mathlib.Core.Bool.{Bool, true, false, cond, _||_}
 use mathlib.Core.Logic.{_≢_}
 use mathlib.Core.List.{List, [], _∷_}
 use native.Mathlib.Omega.{arith}
@@ -11,24 +11,11 @@ use lib.Dec.{eqb}
 use lib.ListN.{length, getD}
 use Rattle.free_number.specs.Lowest.{span, howMany, countOf}
 use Rattle.rows.specs.Among.{among}
+use Rattle.rows.proofs.Listed.{among-more, among-at, among-none}
 use Rattle.free_number.specs.Rows.{isNode}
 use Rattle.free_number.specs.Demand.{IsNode}
 use Rattle.free_number.proofs.Lowest.{count-one, count-none, count-ext}
 use Rattle.free_number.proofs.Nodes.{is-node, other}
-
--- ---- by places
-pub among-cons : (m : ℕ) (ns : List ℕ) (n : ℕ) → among (m ∷ ns) n ≡ eqb n m || among ns n
-among-cons m [] n = sym (or-false (eqb n m))
-among-cons m (k ∷ ns) n = refl
-
-pub among-at : (ns : List ℕ) (i : ℕ) → i < length ns → among ns (getD ns i 0) ≡ true
-among-at [] i h = absurd (omega arith)
-among-at (m ∷ ns) zero h = among-cons m ns m ∙ rw (eq-eqb m m refl)
-among-at (m ∷ ns) (suc i) h = among-cons m ns (getD ns i 0) ∙ rw (among-at ns i (omega arith)) (or-true (eqb (getD ns i 0) m))
-
-among-none : (ns : List ℕ) (n : ℕ) → ((i : ℕ) → i < length ns → getD ns i 0 ≢ n) → among ns n ≡ false
-among-none [] n h = refl
-among-none (m ∷ ns) n h = among-cons m ns n ∙ rw (ne-eqb n m (λ e. h 0 (omega arith) (sym e))) (among-none ns n (λ i l. h (suc i) (omega arith)))
 
 -- ---- how many
 many-most : (k a : ℕ) (p : ℕ → Bool) → howMany p (span a k) ≤ k
@@ -47,7 +34,7 @@ count-most p = many-most 127 1 p
 -- a number more is at most one more, none if it is there already, and one if it is not
 module _ (n : ℕ) (ns : List ℕ) where
   twice : among ns n ≡ true → countOf (among (n ∷ ns)) ≡ countOf (among ns)
-  twice e = count-ext (among (n ∷ ns)) (among ns) (λ i h. among-cons n ns i ∙ go i (eqb i n) refl)
+  twice e = count-ext (among (n ∷ ns)) (among ns) (λ i h. among-more n ns i ∙ go i (eqb i n) refl)
     where
       go : (i : ℕ) (b : Bool) → eqb i n ≡ b → b || among ns i ≡ among ns i
       go i true z = rw (eqb-true i n z) (sym e)
@@ -55,7 +42,7 @@ module _ (n : ℕ) (ns : List ℕ) where
 
   pub once : IsNode n → among ns n ≡ false → countOf (among (n ∷ ns)) ≡ suc (countOf (among ns))
   once h e =
-      count-one n (among ns) (among (n ∷ ns)) h e (among-cons n ns n ∙ rw (eq-eqb n n refl)) (λ i ne. among-cons n ns i ∙ rw (ne-eqb i n ne))
+      count-one n (among ns) (among (n ∷ ns)) h e (among-more n ns n ∙ rw (eq-eqb n n refl)) (λ i ne. among-more n ns i ∙ rw (ne-eqb i n ne))
 
   no-more : countOf (among (n ∷ ns)) ≤ suc (countOf (among ns))
   no-more = go (isNode n) refl (among ns n) refl
@@ -63,7 +50,7 @@ module _ (n : ℕ) (ns : List ℕ) where
       go : (b : Bool) → isNode n ≡ b → (v : Bool) → among ns n ≡ v → countOf (among (n ∷ ns)) ≤ suc (countOf (among ns))
       go true e true f = omega (arith, twice f)
       go true e false f = omega (arith, once (is-node n e) f)
-      go false e v f = omega (arith, count-ext (among (n ∷ ns)) (among ns) (λ i h. among-cons n ns i ∙ rw (other i n h e)))
+      go false e v f = omega (arith, count-ext (among (n ∷ ns)) (among ns) (λ i h. among-more n ns i ∙ rw (other i n h e)))
 
 count-list : (ns : List ℕ) → countOf (among ns) ≤ length ns
 count-list [] = omega (arith, count-none)

@@ -13,20 +13,21 @@ use Rattle.free_number.specs.Rows.{Call, adds, removes, Calls, start, _�
 use Rattle.free_number.specs.Demand.{IsNode}
 use Rattle.free_number.proofs.Nodes.{is-node, other}
 use Rattle.free_number.proofs.Lowest.{count-none}
-use Rattle.free_number.proofs.Among.{among-cons, once}
+use Rattle.rows.proofs.Listed.{among-more}
+use Rattle.free_number.proofs.Among.{once}
 
 -- ---- rows
 among-without : (n k : ℕ) (rows : List ℕ) → among (without k rows) n ≡ cond (eqb n k) false (among rows n)
 unfolding without
 among-without n k [] = elim (eqb n k) as (λ b. false ≡ cond b false false) [ true ↦ refl | false ↦ refl ]
-among-without n k (r ∷ rows) = go (among-without n k rows) (eqb k r) refl (eqb n k) refl ∙ ap (cond (eqb n k) false) (sym (among-cons r rows n))
+among-without n k (r ∷ rows) = go (among-without n k rows) (eqb k r) refl (eqb n k) refl ∙ ap (cond (eqb n k) false) (sym (among-more r rows n))
   where
     go : among (without k rows) n ≡ cond (eqb n k) false (among rows n) → (b : Bool) → eqb k r ≡ b → (d : Bool) → eqb n k ≡ d
         → among (cond b (without k rows) (r ∷ without k rows)) n ≡ cond d false (eqb n r || among rows n)
     go ih true e true f = ih ∙ rw f
     go ih true e false f = ih ∙ rw (f, ← eqb-true k r e, f)
-    go ih false e true f = among-cons r (without k rows) n ∙ rw (ih, f, eqb-true n k f, e)
-    go ih false e false f = among-cons r (without k rows) n ∙ rw (ih, f)
+    go ih false e true f = among-more r (without k rows) n ∙ rw (ih, f, eqb-true n k f, e)
+    go ih false e false f = among-more r (without k rows) n ∙ rw (ih, f)
 
 -- a call decides whether the number that it names is a row's, be it refused or not, and leaves all others
 pub row-step : (rows : List ℕ) (c : Call) (n : ℕ) → IsNode n
@@ -38,7 +39,7 @@ row-step rows (adds k) n h = go (isNode k) refl (among rows k) refl (eqb n k) re
         → among (cond (eqb (cond b (cond v 9 0) 7) 0) (k ∷ rows) rows) n ≡ cond t true (among rows n)
     go true e true f true z = rw (eqb-true n k z) f
     go true e true f false z = refl
-    go true e false f t z = among-cons k rows n ∙ rw z (elim t as (λ x. x || among rows n ≡ cond x true (among rows n)) [ true ↦ refl | false ↦ refl ])
+    go true e false f t z = among-more k rows n ∙ rw z (elim t as (λ x. x || among rows n ≡ cond x true (among rows n)) [ true ↦ refl | false ↦ refl ])
     go false e v f true z = absurd (true≢false (sym z ∙ other n k h e))
     go false e v f false z = refl
 row-step rows (removes k) n h = go (isNode k) refl (among rows k) refl (eqb n k) refl
@@ -62,7 +63,7 @@ after-adding : (cs : Calls) (ns : List ℕ) (n : ℕ) → IsNode n → among (ro
 unfolding rowsAfter
 after-adding cs [] n h = refl
 after-adding cs (k ∷ ns) n h =
-    after-adding (cs ▸ adds k) ns n h ∙ rw (row-step (rowsAfter cs) (adds k) n h, among-cons k ns n) (go (among ns n) (eqb n k) (among (rowsAfter cs) n))
+    after-adding (cs ▸ adds k) ns n h ∙ rw (row-step (rowsAfter cs) (adds k) n h, among-more k ns n) (go (among ns n) (eqb n k) (among (rowsAfter cs) n))
   where
     go : (a t b : Bool) → a || cond t true b ≡ (t || a) || b
     go true true b = refl

@@ -34,7 +34,7 @@ use Rattle.head.specs.Moves.{overdueOf, tickedOf, measuredOf, withKeys, 
 use Rattle.head.specs.Calls.{nodeFits, factoryOf, loadedOf}
 
 -- what holds of both ways of a test holds of it
-same : (P : Head → Type 0) (b : Bool) {x y : Head} → P x → P y → P (cond b x y)
+pub same : (P : Head → Type 0) (b : Bool) {x y : Head} → P x → P y → P (cond b x y)
 same P true p q = p
 same P false p q = q
 
@@ -175,10 +175,10 @@ load-fits h s r f =
       keys = w .keys;
     })
 
-pub fresh-fits : (node : ℕ) → nodeFits node ≡ true → wellformedOf (freshOf node) ≡ true
+pub fresh-fits : (node serial : ℕ) → nodeFits node ≡ true → wellformedOf (freshOf node serial) ≡ true
 unfolding nodeFits
-fresh-fits node f = fresh-keeps node f
+fresh-fits node serial f = fresh-keeps node serial f
 
-pub factory-fits : wellformedOf factoryOf ≡ true
+pub factory-fits : (serial : ℕ) → wellformedOf (factoryOf serial) ≡ true
 unfolding nodeFits factoryOf
-factory-fits = fresh-fits 31 (node-fits 31 (omega arith) (omega arith))
+factory-fits serial = fresh-fits 31 serial (node-fits 31 (omega arith) (omega arith))

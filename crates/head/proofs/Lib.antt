@@ -4,6 +4,7 @@ pub mod Sheets
 pub mod Keeps
 pub mod Tests
 pub mod Asked
+pub mod Serials
 pub mod Refused
 pub mod Passes
 pub mod Again

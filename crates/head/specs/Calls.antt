@@ -1,4 +1,5 @@
--- The calls on a head and their refusals (document 01, "The line, and calls refused"; sheets: document 02, request (vii)): 20 goes before all others.
+-- The calls on a head and their refusals (document 01, "The line, and calls refused"; sheets and serial numbers: document 02, requests (vii) and
+-- (xi)): 20 goes before all others.
 -- Assumes nothing.
 use Prim.Native.Nat.{ℕ}
 use mathlib.Core.Bool.{Bool, cond, not}
@@ -30,6 +31,8 @@ use Rattle.head.specs.declared.calls.Heard.the-variants as heard
 use Rattle.head.specs.declared.calls.Fed.{Fed}
 use Rattle.head.specs.declared.calls.Hit.{Hit}
 use Rattle.head.specs.declared.calls.Hit.the-variants as hit
+use Rattle.head.specs.declared.calls.Serial.{Serial}
+use Rattle.head.specs.declared.calls.Serial.the-variants as serial
 use Rattle.head.specs.declared.hear.Stepped.{Stepped}
 use Rattle.head.specs.Hear.{stepOf}
 use Rattle.head.specs.Moves.{withTargets, tickedOf, measuredOf, keyedOf}
@@ -53,16 +56,16 @@ refusedWith h why = record { head = h; answer = answer.Refused why }
 abbrev pub askedOf : Head → Tests → Head → Called
 askedOf h own next = guarded (refusedWith h) ((wellformedOf h, Malformed) ∷ own) (doneWith next)
 
--- the factory head
-unfoldable pub factoryOf : Head
-factoryOf = freshOf 31
+-- the factory head with a serial number
+unfoldable pub factoryOf : ℕ → Head
+factoryOf serial = freshOf 31 serial
 
--- refusal 1: a node number not 1..127 is refused, and the head returned is the factory head at 31
+-- refusal 1: a node number not 1..127 is refused, and the head returned is the factory head at 31, with the serial number that was given
 unfoldable pub nodeFits : ℕ → Bool
 nodeFits node = fitsIn (rowOf nodePlace) node
 
-unfoldable pub madeOf : ℕ → Called
-madeOf node = cond (nodeFits node) (doneWith (freshOf node)) (refusedWith factoryOf Node)
+unfoldable pub madeOf : ℕ → ℕ → Called
+madeOf node serial = cond (nodeFits node) (doneWith (freshOf node serial)) (refusedWith (factoryOf serial) Node)
 
 -- a reply in the first ten bytes, the rest unchanged; a space that is too short stays as it is
 unfoldable pub laidOn : List ℕ → List ℕ → List ℕ
@@ -118,6 +121,10 @@ powerOf h = askedOf h [] (restartedOf h)
 -- the last non-zero exclusive-or, 0 where there is none (document 02, request (i)): 20, then what is kept, whatever byte that is
 unfoldable pub lastHitOf : Head → Hit
 lastHitOf h = guarded hit.Refused ((wellformedOf h, Malformed) ∷ []) (hit.Bits (h .faults .hit))
+
+-- the serial number that the head was made with (document 02, request (xi)): 20, then what is kept, whatever number that is
+unfoldable pub serialNumberOf : Head → Serial
+serialNumberOf h = guarded serial.Refused ((wellformedOf h, Malformed) ∷ []) (serial.Number (h .stored .serial))
 
 -- ---- a sheet is loaded: 11, then 12, then 13; where all hold, its values are stored at the places of their addresses; and no other part of the head changes, but that
 -- alpha-numeric display may be entered or left

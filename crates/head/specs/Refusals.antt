@@ -1,9 +1,9 @@
--- The numbers of the refusals (document 01, "The line, and calls refused"; sheets: document 02, request (vii)).
+-- The numbers of the refusals (document 01, "The line, and calls refused"; sheets and serial numbers: document 02, requests (vii) and (xi)).
 -- Assumes nothing.
 use Prim.Native.Nat.{ℕ}
 use Rattle.sheet.specs.Refusals as sheet
 use Rattle.head.specs.declared.refusal.Refusal.{Refusal}
-use Rattle.head.specs.declared.refusal.Refusal.the-variants.{Node, Full, NoHead, OutOfReach, Keys, Space, Sheet, Malformed}
+use Rattle.head.specs.declared.refusal.Refusal.the-variants.{Node, Full, NoHead, OutOfReach, Keys, Space, Sheet, Malformed, SerialTaken}
 
 abbrev pub refusalOf : Refusal → ℕ
 refusalOf Node = 1
@@ -14,3 +14,4 @@ refusalOf Keys = 5
 refusalOf Space = 6
 refusalOf (Sheet why) = sheet.refusalOf why
 refusalOf Malformed = 20
+refusalOf SerialTaken = 17

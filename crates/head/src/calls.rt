@@ -12,10 +12,8 @@ use state::parts::Setting;
 use state::wellformed;
 ghost use mathlib.Core.Path.{_≡_};
 ghost use mathlib.Core.Bool.{Bool};
-ghost use Prim.Native.Nat.{_≤_};
 ghost use lib.ListN.{length};
-ghost use Rattle.effects.specs.Restart.{freshOf};
-ghost use Rattle.head.specs.Calls.{nodeFits, factoryOf, madeOf, doneWith, refusedWith, laidOn, fedWith, unfed, spaceWith, byteOf, byteSpaceOf, tickOf, measureOf, keysOf, keysSpaceOf, powerOf, lastHitOf, toldOf, loadOf, saveOf, saveSpaceOf};
+ghost use Rattle.head.specs.Calls.{nodeFits, factoryOf, madeOf, doneWith, refusedWith, laidOn, fedWith, unfed, spaceWith, byteOf, byteSpaceOf, tickOf, measureOf, keysOf, keysSpaceOf, powerOf, lastHitOf, serialNumberOf, toldOf, loadOf, saveOf, saveSpaceOf};
 
 pub enum Answer {
     Done,
@@ -45,11 +43,17 @@ pub enum Hit {
     Refused(Refusal),
 }
 
+// The serial number that a head was made with.
+pub enum Serial {
+    Number(u32),
+    Refused(Refusal),
+}
+
 // The head as the factory delivers it, at 31.
-pub fn factory() -> Head
-    ensures { λ r. ⌜ r ≡ factoryOf ⌝ }
+pub fn factory(serial: u32) -> Head
+    ensures { λ r. ⌜ r ≡ factoryOf serial ⌝ }
 {
-    restart::fresh(31)
+    restart::fresh(31, serial)
 }
 
 // Whether a number may be a node number.
@@ -59,18 +63,18 @@ pub fn node_fits(node: u32) -> bool
     rows::range::fits_at(0, node)
 }
 
-// A head with a node number.
-pub fn make(node: u32) -> Called
-    ensures { λ r. ⌜ r ≡ madeOf node ⌝ }
+// A head with a node number and a serial number.
+pub fn make(node: u32, serial: u32) -> Called
+    ensures { λ r. ⌜ r ≡ madeOf node serial ⌝ }
 {
     if node_fits(node) {
         return Called {
-            head: restart::fresh(node),
+            head: restart::fresh(node, serial),
             answer: Answer::Done,
         };
     }
     Called {
-        head: factory(),
+        head: factory(serial),
         answer: Answer::Refused(Refusal::Node),
     }
 }
@@ -206,6 +210,17 @@ pub fn last_hit(h: Head) -> Hit
         return Hit::Bits(f.hit);
     }
     Hit::Refused(Refusal::Malformed)
+}
+
+// The serial number; whoever asks changes nothing.
+pub fn serial_number(h: Head) -> Serial
+    ensures { λ r. ⌜ r ≡ serialNumberOf h ⌝ }
+{
+    if wellformed::wellformed(h) {
+        let s = h.stored;
+        return Serial::Number(s.serial);
+    }
+    Serial::Refused(Refusal::Malformed)
 }
 
 // What is answered for a sheet.

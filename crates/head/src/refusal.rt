@@ -11,6 +11,7 @@ pub enum Refusal {
     Space,
     Sheet(sheet::refusal::Refusal),
     Malformed,
+    SerialTaken,
 }
 
 impl Refusal {
@@ -25,6 +26,8 @@ impl Refusal {
     pub const KEYS: u32 = 5;
 
     pub const SPACE: u32 = 6;
+
+    pub const SERIAL_TAKEN: u32 = 17;
 
     pub const MALFORMED: u32 = 20;
 
@@ -41,6 +44,7 @@ impl Refusal {
             Refusal::Space => Refusal::SPACE,
             Refusal::Sheet(why) => why.number(),
             Refusal::Malformed => Refusal::MALFORMED,
+            Refusal::SerialTaken => Refusal::SERIAL_TAKEN,
         }
     }
 }

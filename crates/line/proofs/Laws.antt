@@ -8,19 +8,18 @@ use mathlib.Core.List.{List, map, [], _∷_, _++_, append-assoc, append-nil}
 use native.Mathlib.Omega.{arith}
 use native.Mathlib.Numerals.{add-one}
 use native.Mathlib.Nat.{le-of-suc-le-suc, not-suc-le-zero}
-use borrow.Author.Tests.{le-ltb, lt-ltb, le-leb, lt-leb, leb-true, ne-eqb}
-use lib.Dec.{leb, ltb}
+use borrow.Author.Tests.{le-leb, lt-leb, leb-true, ne-eqb}
+use lib.Dec.{leb}
 use lib.ListN.{length, getD, set, replicate, length-append, length-map}
 use Rattle.state.specs.declared.parts.Head.{Head}
 use Rattle.state.specs.Wellformed.{wellformedOf}
 use Rattle.head.specs.declared.hear.Stepped.{Stepped}
 use Rattle.head.specs.Hear.{stepOf}
-use Rattle.head.specs.declared.refusal.Refusal.the-variants.{Space, Malformed}
-use Rattle.head.specs.declared.calls.Heard.the-variants as heard
 use Rattle.line.specs.declared.round.Replies.{Replies}
 use Rattle.line.specs.declared.calls.Line.{Line}
 use Rattle.line.specs.Round.{each, allFit, steppedBy, saidBy, repliesOf, noReply, counted, laidFor}
-use Rattle.line.specs.Calls.{unfed, fitsOf, repliesAt, laidBy, byteOf, byteSpaceOf}
+use Rattle.line.specs.Serials.{allDiffer}
+use Rattle.line.specs.Calls.{serialsAt, fitsOf, laidBy}
 
 -- f at the ith element, after f at the first i
 pub each-turn : {A : Type 0} (f : A → A) (d : A) (i : ℕ) (xs : List A) → i < length xs
@@ -106,7 +105,7 @@ one-replies b at d (suc k) (suc n) (h ∷ hs) p q y z =
     rw (z 0 (omega arith) (λ e. omega arith))
     (one-replies b at d k n hs (le-of-suc-le-suc p) (le-of-suc-le-suc q) y (λ j i ne. z (suc j) (omega arith) (λ e. ne (omega arith))))
 
-abbrev lastOr : List ℕ → List (List ℕ) → List ℕ
+abbrev pub lastOr : List ℕ → List (List ℕ) → List ℕ
 lastOr d [] = d
 lastOr d (r ∷ rs) = lastOr r rs
 
@@ -115,7 +114,7 @@ last-snoc d r [] = refl
 last-snoc d r (q ∷ rs) = last-snoc q r rs
 
 -- replies counted one at a time are so many, and the last is the last
-abbrev tally : List (List ℕ) → Replies
+abbrev pub tally : List (List ℕ) → Replies
 tally rs = record { count = length rs; last = lastOr (replicate 10 0) rs }
 
 tally-more : (rs : List (List ℕ)) (replied : Bool) (reply : List ℕ)
@@ -157,21 +156,27 @@ few (suc n) (h ∷ hs) b at = rw (length-append (saidBy (stepOf h b at))) (omega
 pub heard-few : {b at : ℕ} {l : Line} {i : ℕ} {k : Line} {r : Replies} → Heard b at l i k r → r .count ≤ i
 heard-few {b} {at} {l} {i} t = rw (t .replies) (few i (l .heads) b at)
 
--- a line that fits has at most eight heads
-pub fits-small : (l : Line) → fitsOf l ≡ true → l .count ≤ 8
+-- a line that fits has at most 32 heads, all well-formed, and their serial numbers differ
+pub fits-small : (l : Line) → fitsOf l ≡ true → l .count ≤ 32
 unfolding fitsOf
 fits-small l e = leb-true _ _ (and-eq-true-iff _ _ .0 e .0)
 
+fits-both : (l : Line) → fitsOf l ≡ true → (allFit (l .count) (l .heads) ≡ true) × (allDiffer (serialsAt l) ≡ true)
+unfolding fitsOf
+fits-both l e = and-eq-true-iff _ _ .0 (and-eq-true-iff (leb (l .count) 32) _ .0 e .1)
+
 pub fits-heads : (l : Line) → fitsOf l ≡ true → allFit (l .count) (l .heads) ≡ true
-unfolding fitsOf
-fits-heads l e = and-eq-true-iff (leb (l .count) 8) _ .0 e .1
+fits-heads l e = fits-both l e .0
 
--- with at most eight, a line fits where its heads are well-formed
-pub fits-eight : (l : Line) → l .count ≤ 8 → fitsOf l ≡ allFit (l .count) (l .heads)
-unfolding fitsOf
-fits-eight l p = rw (le-leb _ _ p)
+pub fits-serials : (l : Line) → fitsOf l ≡ true → allDiffer (serialsAt l) ≡ true
+fits-serials l e = fits-both l e .1
 
-pub fits-over : (l : Line) → 8 < l .count → fitsOf l ≡ false
+-- with at most 32, a line fits where its heads are well-formed and their serial numbers differ
+pub fits-few : (l : Line) → l .count ≤ 32 → fitsOf l ≡ (allFit (l .count) (l .heads) && allDiffer (serialsAt l))
+unfolding fitsOf
+fits-few l p = rw (le-leb _ _ p)
+
+pub fits-over : (l : Line) → 32 < l .count → fitsOf l ≡ false
 unfolding fitsOf
 fits-over l p = rw (lt-leb _ _ p)
 
@@ -191,12 +196,6 @@ getD-either d e i [] p = absurd (not-suc-le-zero p)
 getD-either d e zero (x ∷ xs) p = refl
 getD-either d e (suc i) (x ∷ xs) p = getD-either d e i xs (le-of-suc-le-suc p)
 
--- a byte for a line: the two refusals, and what is heard
-malformed : (l : Line) (b at : ℕ) (s : List ℕ) → fitsOf l ≡ false
-    → (unfed l Malformed ≡ byteOf l b at (length s)) × (s ≡ byteSpaceOf l b at s)
-unfolding byteOf byteSpaceOf
-malformed l b at s e = (rw e, rw e)
-
 -- other than one reply, nothing is laid
 pub not-one : (rs : List (List ℕ)) (s : List ℕ) → (length rs ≡ 1 → ⊥) → s ≡ laidBy rs s
 not-one [] s n = refl
@@ -204,29 +203,7 @@ not-one (r ∷ []) s n = absurd (n refl)
 not-one (r ∷ (q ∷ rs)) s n = refl
 
 -- what is laid goes by the replies alone
-laid-tally : (rs : List (List ℕ)) (s : List ℕ) → laidFor (tally rs) s ≡ laidBy rs s
+pub laid-tally : (rs : List (List ℕ)) (s : List ℕ) → laidFor (tally rs) s ≡ laidBy rs s
 laid-tally [] s = refl
 laid-tally (r ∷ []) s = refl
 laid-tally (r ∷ (q ∷ rs)) s = rw (ne-eqb (suc (suc (length rs))) 1 (λ e. omega arith))
-
-module _ (l : Line) (b at : ℕ) (s : List ℕ) where
-  pub byte-over : 8 < l .count → (unfed l Malformed ≡ byteOf l b at (length s)) × (s ≡ byteSpaceOf l b at s)
-  byte-over p = malformed l b at s (fits-over l p)
-
-  module _ (p : l .count ≤ 8) where
-    pub byte-malformed : allFit (l .count) (l .heads) ≡ false → (unfed l Malformed ≡ byteOf l b at (length s)) × (s ≡ byteSpaceOf l b at s)
-    byte-malformed f = malformed l b at s (fits-eight l p ∙ f)
-
-    module _ (f : allFit (l .count) (l .heads) ≡ true) where
-      pub byte-short : length s < 10 → (unfed l Space ≡ byteOf l b at (length s)) × (s ≡ byteSpaceOf l b at s)
-      unfolding byteOf byteSpaceOf
-      byte-short q = let e = fits-eight l p ∙ f in (rw (e, lt-ltb _ _ q), rw (e, lt-ltb _ _ q))
-
-      pub byte-heard : 10 ≤ length s → (k : Line) (r : Replies) → Heard b at l (l .count) k r
-          → (record { line = k; heard = heard.Replies (r .count) } ≡ byteOf l b at (length s)) × (laidFor r s ≡ byteSpaceOf l b at s)
-      unfolding byteOf byteSpaceOf
-      byte-heard q k r t =
-          let e = fits-eight l p ∙ f in (
-            rw (e, le-ltb _ _ q, ← t .heads, t .replies, t .count),
-            rw (e, le-ltb _ _ q, t .replies) (laid-tally (repliesAt l b at) s),
-          )

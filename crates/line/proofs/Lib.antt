@@ -1,2 +1,4 @@
 pub mod Laws
+pub mod Stretch
+pub mod Apart
 pub mod Theorems

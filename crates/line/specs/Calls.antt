@@ -1,15 +1,17 @@
--- The calls on a line and their refusals (document 01, "The line, and calls refused"; keys and sheets: document 02, requests (ii) and (vii)).
+-- The calls on a line and their refusals (document 01, "The line, and calls refused"; keys, sheets and serial numbers: document 02, requests (ii),
+-- (vii) and (xi)).
 -- Assumes nothing.
 use Prim.Native.Nat.{ℕ, _+_}
-use mathlib.Core.Bool.{Bool, cond, _&&_}
+use mathlib.Core.Bool.{Bool, cond, not, _&&_}
 use mathlib.Core.List.{List, [], _∷_}
 use lib.Dec.{leb, ltb}
 use lib.IntN.{ℤ}
 use lib.ListN.{length, getD, set, replicate}
+use Rattle.rows.specs.Among.{among}
 use Rattle.state.specs.declared.parts.Head.{Head}
 use Rattle.effects.specs.Restart.{freshOf}
 use Rattle.head.specs.declared.refusal.Refusal.{Refusal}
-use Rattle.head.specs.declared.refusal.Refusal.the-variants.{Node, Full, NoHead, Space, Malformed}
+use Rattle.head.specs.declared.refusal.Refusal.the-variants.{Node, Full, NoHead, Space, Malformed, SerialTaken}
 use Rattle.head.specs.declared.calls.Answer.{Answer}
 use Rattle.head.specs.declared.calls.Answer.the-variants as answer
 use Rattle.head.specs.declared.calls.Heard.the-variants as heard
@@ -17,11 +19,14 @@ use Rattle.head.specs.declared.calls.Called as alone
 use Rattle.head.specs.declared.calls.Fed as lent
 use Rattle.head.specs.declared.calls.Hit.{Hit}
 use Rattle.head.specs.declared.calls.Hit.the-variants as hit
+use Rattle.head.specs.declared.calls.Serial.{Serial}
+use Rattle.head.specs.declared.calls.Serial.the-variants as serial
 use Rattle.head.specs.Calls as head
 use Rattle.head.specs.Calls.{Tests, guarded, factoryOf, nodeFits, laidOn}
 use Rattle.line.specs.declared.calls.Line.{Line}
 use Rattle.line.specs.declared.calls.Called.{Called}
 use Rattle.line.specs.declared.calls.Fed.{Fed}
+use Rattle.line.specs.Serials.{serialsOf, allDiffer}
 use Rattle.line.specs.Round.{each, allFit, steppedBy, tickedAt, repliesOf}
 
 -- a call that was done, and one that was refused: the line is as it was
@@ -36,28 +41,33 @@ unfed l why = record { line = l; heard = heard.Refused why }
 
 -- a line with no head; what stands in a place past the count does not matter
 unfoldable pub emptyOf : Line
-emptyOf = record { heads = replicate 8 factoryOf; count = 0 }
+emptyOf = record { heads = replicate 32 (factoryOf 0); count = 0 }
 
--- refusal 20: over eight heads, or a head below the count malformed
+-- the serial numbers of its heads
+abbrev pub serialsAt : Line → List ℕ
+serialsAt l = serialsOf (l .count) (l .heads)
+
+-- refusal 20: over 32 heads, or of those below the count one malformed or two with one serial number
 unfoldable pub fitsOf : Line → Bool
-fitsOf l = leb (l .count) 8 && allFit (l .count) (l .heads)
+fitsOf l = leb (l .count) 32 && (allFit (l .count) (l .heads) && allDiffer (serialsAt l))
 
 abbrev pub headAt : Line → ℕ → Head
-headAt l i = getD (l .heads) i factoryOf
+headAt l i = getD (l .heads) i (factoryOf 0)
 
 -- a head put at a place
 unfoldable pub placedOf : Line → ℕ → Head → Line
 placedOf l i h = record { heads = set (l .heads) i h; count = l .count }
 
--- grown by a head: 20, then 2 for the ninth head, then 1 for a node number not 1..127
-abbrev pub grownBy : Line → ℕ → Line
-grownBy l node = record { heads = set (l .heads) (l .count) (freshOf node); count = l .count + 1 }
+-- grown by a head: 20, then 2 for the thirty-third head, then 1 for a node number not 1..127, then 17 for a serial number that is on the line
+abbrev pub grownBy : Line → ℕ → ℕ → Line
+grownBy l node serial = record { heads = set (l .heads) (l .count) (freshOf node serial); count = l .count + 1 }
 
-unfoldable pub growOf : Line → ℕ → Called
-growOf l node =
-    cond (fitsOf l)
-    (cond (ltb (l .count) 8) (cond (nodeFits node) (doneWith (grownBy l node)) (refusedWith l Node)) (refusedWith l Full))
-    (refusedWith l Malformed)
+abbrev pub growTests : Line → ℕ → ℕ → Tests
+growTests l node serial =
+    (fitsOf l, Malformed) ∷ (ltb (l .count) 32, Full) ∷ (nodeFits node, Node) ∷ (not (among (serialsAt l) serial), SerialTaken) ∷ []
+
+unfoldable pub growOf : Line → ℕ → ℕ → Called
+growOf l node serial = guarded (refusedWith l) (growTests l node serial) (doneWith (grownBy l node serial))
 
 -- a byte: 20, then 6; else every head has heard it, and the answer is the number of replies
 abbrev pub repliesAt : Line → ℕ → ℕ → List (List ℕ)
@@ -118,6 +128,10 @@ powerOf l i = namedOf l i (head.powerOf (headAt l i))
 -- the last non-zero exclusive-or of one head: it names the head too, and hands back no line
 unfoldable pub lastHitOf : Line → ℕ → Hit
 lastHitOf l i = guarded hit.Refused (namedTests l i) (head.lastHitOf (headAt l i))
+
+-- the serial number of one head: so does this
+unfoldable pub serialNumberOf : Line → ℕ → Serial
+serialNumberOf l i = guarded serial.Refused (namedTests l i) (head.serialNumberOf (headAt l i))
 
 -- a sheet is loaded into one head
 unfoldable pub loadOf : Line → ℕ → List ℕ → Called

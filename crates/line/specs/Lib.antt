@@ -1,2 +1,4 @@
 pub mod Round
+pub mod Serials
 pub mod Calls
+pub mod Stretch

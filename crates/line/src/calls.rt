@@ -1,10 +1,12 @@
-// The calls on a line. 20 goes before all other refusals, 2 before 1, 3 before 4, 5, 6 and those of a sheet.
+// The calls on a line. 20 goes before all other refusals, 2 before 1 and 1 before 17, 3 before 4, 5, 6 and those of a sheet.
 use crate::round;
+use crate::serials;
 use effects::restart;
 use head::calls;
 use head::calls::Answer;
 use head::calls::Heard;
 use head::calls::Hit;
+use head::calls::Serial;
 use head::hear;
 use head::moves;
 use head::refusal::Refusal;
@@ -12,13 +14,16 @@ use state::parts::Head;
 use state::wellformed;
 ghost use mathlib.Core.Path.{_≡_};
 ghost use mathlib.Core.Bool.{Bool};
-ghost use lib.ListN.{length};
-ghost use Rattle.line.specs.Calls.{emptyOf, fitsOf, doneWith, refusedWith, headAt, placedOf, growOf, byteOf, byteSpaceOf, tickOf, namedOf, measureOf, unfed, keysOf, keysSpaceOf, powerOf, lastHitOf, loadOf, saveOf, saveSpaceOf};
+ghost use Prim.Native.Nat.{_≤_};
+ghost use lib.ListN.{length, drop};
+ghost use Rattle.rows.specs.Among.{among};
+ghost use Rattle.line.specs.Calls.{emptyOf, serialsAt, fitsOf, doneWith, refusedWith, headAt, placedOf, growOf, byteOf, byteSpaceOf, tickOf, namedOf, measureOf, unfed, keysOf, keysSpaceOf, powerOf, lastHitOf, serialNumberOf, loadOf, saveOf, saveSpaceOf};
+ghost use Rattle.line.specs.Stretch.{untilOf, untilSpaceOf};
 
-// Eight places for heads, of which the first `count` are on the wire.
+// Places for 32 heads, of which the first `count` are on the wire.
 #[repr(C)]
 pub struct Line {
-    pub heads: [Head; 8],
+    pub heads: [Head; 32],
     pub count: usize,
 }
 
@@ -34,13 +39,21 @@ pub struct Fed {
     pub heard: Heard,
 }
 
+// The line after a stretch of bytes, what the last of them that was heard drew, and the place of the next.
+#[repr(C)]
+pub struct Stretch {
+    pub line: Line,
+    pub heard: Heard,
+    pub next: usize,
+}
+
 // A line with no head.
 pub fn empty() -> Line
     ensures { λ r. ⌜ r ≡ emptyOf ⌝ }
 {
-    let h = calls::factory();
+    let h = calls::factory(0);
     Line {
-        heads: [h; 8],
+        heads: [h; 32],
         count: 0,
     }
 }
@@ -52,17 +65,21 @@ pub fn count(l: Line) -> usize
     l.count
 }
 
-// Whether the line is one that can be: at most eight heads, each below the count well-formed.
+// Whether the line is one that can be: at most 32 heads, each below the count well-formed, no two with one serial number. The serial numbers are
+// gathered on the way, so that each head is read once.
 pub fn fits(l: Line) -> bool
     ensures { λ r. ⌜ r ≡ fitsOf l ⌝ }
 {
     let n = l.count;
-    if n <= 8 {
+    if n <= 32 {
         let mut ok = true;
+        let mut serials = [0u32; 32];
         let mut i: usize = 0;
         while i < n {
             let h = l.heads[i];
-            ok = ok & wellformed::wellformed(h);
+            let s = h.stored;
+            ok = ok & wellformed::wellformed(h) & !serials::stands(serials, i, s.serial);
+            serials[i] = s.serial;
             i += 1;
         }
         return ok;
@@ -92,10 +109,10 @@ fn refused(l: Line, why: Refusal) -> Called
 fn head_at(l: Line, i: usize) -> Head
     ensures { λ r. ⌜ r ≡ headAt l i ⌝ }
 {
-    if i < 8 {
+    if i < 32 {
         return l.heads[i];
     }
-    calls::factory()
+    calls::factory(0)
 }
 
 // A head put at a place; at no place, nothing is put.
@@ -103,21 +120,41 @@ fn placed(l: Line, i: usize, h: Head) -> Line
     ensures { λ r. ⌜ r ≡ placedOf l i h ⌝ }
 {
     let mut k = l;
-    if i < 8 {
+    if i < 32 {
         k.heads[i] = h;
     }
     k
 }
 
-// A line grown by a head with a node number.
-pub fn grow(l: Line, node: u32) -> Called
-    ensures { λ r. ⌜ r ≡ growOf l node ⌝ }
+// Whether a head of the line has this serial number.
+fn on_line(l: Line, serial: u32) -> bool
+    requires { ⌜ l .count ≤ 32 ⌝ }
+    ensures { λ r. ⌜ r ≡ among (serialsAt l) serial ⌝ }
+{
+    let n = l.count;
+    let mut found = false;
+    let mut i: usize = 0;
+    while i < n {
+        let h = l.heads[i];
+        let s = h.stored;
+        found = found | (serial == s.serial);
+        i += 1;
+    }
+    found
+}
+
+// A line grown by a head with a node number and a serial number.
+pub fn grow(l: Line, node: u32, serial: u32) -> Called
+    ensures { λ r. ⌜ r ≡ growOf l node serial ⌝ }
 {
     if fits(l) {
         let n = l.count;
-        if n < 8 {
+        if n < 32 {
             if calls::node_fits(node) {
-                let mut k = placed(l, n, restart::fresh(node));
+                if on_line(l, serial) {
+                    return refused(l, Refusal::SerialTaken);
+                }
+                let mut k = placed(l, n, restart::fresh(node, serial));
                 k.count = n + 1;
                 return done(k);
             }
@@ -128,29 +165,26 @@ pub fn grow(l: Line, node: u32) -> Called
     refused(l, Refusal::Malformed)
 }
 
-// A byte for every head, with lent reply space. The line is copied once, into `k`, and leaves by one exit; each arm of a turn reads and writes
-// its head in place, so that a byte that ends no telegram, as nine of ten do, writes the bytes gathered and nothing else.
-pub fn byte(l: Line, b: u8, at: u32, space: &mut [u8]) -> Fed
-    ensures { λ r. ⌜ r ≡ byteOf l b at (length (now (space .entry))) ⌝ }
-    ensures { λ r. ⌜ now (space .exit) ≡ byteSpaceOf l b at (now (space .entry)) ⌝ }
+// Bytes for every head, from the place `from` on, all at one time and with lent reply space, until one draws a reply: the space holds the reply to
+// one byte, so whoever wants them all has to look at it before the next byte is heard. The tests for refusal are made once for all these bytes, and
+// the line is copied once, into `k`, and leaves by one exit; each arm of a turn reads and writes its head in place, so that a byte that ends no
+// telegram, as nine of ten do, writes the bytes gathered and nothing else.
+pub fn until_reply(l: Line, bytes: &[u8], from: usize, at: u32, space: &mut [u8]) -> Stretch
+    ensures { λ r. ⌜ r ≡ untilOf l (drop from (now (bytes .entry))) from at (length (now (space .entry))) ⌝ }
+    ensures { λ r. ⌜ now (space .exit) ≡ untilSpaceOf l (drop from (now (bytes .entry))) at (now (space .entry)) ⌝ }
 {
     let mut k = l;
     let n = l.count;
+    let mut j = from;
     let mut heard = Heard::Refused(Refusal::Malformed);
-    if n <= 8 {
-        let mut ok = true;
-        let mut i: usize = 0;
-        while i < n {
-            let h = k.heads[i];
-            ok = ok & wellformed::wellformed(h);
-            i += 1;
-        }
-        if ok {
-            if space.len() < 10 {
-                heard = Heard::Refused(Refusal::Space);
-            } else {
-                let mut replies = round::none();
-                i = 0;
+    if fits(l) {
+        if space.len() < 10 {
+            heard = Heard::Refused(Refusal::Space);
+        } else {
+            let mut replies = round::none();
+            while j < bytes.len() && replies.count == 0 {
+                let b = bytes[j];
+                let mut i: usize = 0;
                 while i < n {
                     let h = k.heads[i];
                     let g = hear::gather(h.ear, b, at);
@@ -169,13 +203,30 @@ pub fn byte(l: Line, b: u8, at: u32, space: &mut [u8]) -> Fed
                     }
                     i += 1;
                 }
-                round::lay(space, replies);
-                heard = Heard::Replies(replies.count);
+                j += 1;
             }
+            round::lay(space, replies);
+            heard = Heard::Replies(replies.count);
         }
     }
-    Fed {
+    Stretch {
         line: k,
+        heard: heard,
+        next: j,
+    }
+}
+
+// A byte for every head, with lent reply space: a stretch of one.
+pub fn byte(l: Line, b: u8, at: u32, space: &mut [u8]) -> Fed
+    ensures { λ r. ⌜ r ≡ byteOf l b at (length (now (space .entry))) ⌝ }
+    ensures { λ r. ⌜ now (space .exit) ≡ byteSpaceOf l b at (now (space .entry)) ⌝ }
+{
+    let one = [b];
+    let s = until_reply(l, &one, 0, at, space);
+    let line = s.line;
+    let heard = s.heard;
+    Fed {
+        line: line,
         heard: heard,
     }
 }
@@ -268,6 +319,19 @@ pub fn last_hit(l: Line, i: usize) -> Hit
         return Hit::Refused(Refusal::NoHead);
     }
     Hit::Refused(Refusal::Malformed)
+}
+
+// The serial number of one head.
+pub fn serial_number(l: Line, i: usize) -> Serial
+    ensures { λ r. ⌜ r ≡ serialNumberOf l i ⌝ }
+{
+    if fits(l) {
+        if i < l.count {
+            return calls::serial_number(head_at(l, i));
+        }
+        return Serial::Refused(Refusal::NoHead);
+    }
+    Serial::Refused(Refusal::Malformed)
 }
 
 // A sheet loaded into one head.

@@ -23,7 +23,7 @@ pub(crate) fn none() -> Replies
 
 // What one head said, counted with the others.
 pub(crate) fn count(before: Replies, replied: bool, reply: [u8; 10]) -> Replies
-    requires { ⌜ before .count < 8 ⌝ }
+    requires { ⌜ before .count < 32 ⌝ }
     ensures { λ r. ⌜ r ≡ counted before replied reply ⌝ }
 {
     if replied {

@@ -8,7 +8,7 @@ use mathlib.Core.Logic.{_⊎_, inl, inr, ⊎-elim}
 use Prim.Native.Nat.{ℕ, zero, suc, _+_, _-_, _<_, _≤_}
 use native.Mathlib.Omega.{arith}
 use lib.Dec.{T, eqb, leb, ltb, eqb→eq}
-use borrow.Author.Tests.{eqb-true, eqb-false, eq-eqb, le-leb, le-ltb, ltb-true, ltb-false, ne-eqb, not-true}
+use borrow.Author.Tests.{eqb-false, le-leb, le-ltb, ltb-true, ltb-false, ne-eqb, not-true}
 use Rattle.rows.specs.declared.access.Access.{Access}
 use Rattle.rows.specs.declared.access.Access.the-variants.{ReadWrite, ReadOnly, WriteOnly, Unknown}
 use Rattle.rows.specs.declared.kind.Kind.{Kind}
@@ -25,6 +25,7 @@ use Rattle.rows.specs.Table.{address, rows, rowOf, placeIn, placeOf, isA
 use Rattle.rows.specs.Access.{stored, setPoints, readOnly, writeOnly, accessOf}
 use Rattle.rows.specs.Kinds.{otherOf, kindOf, groupOf}
 use Rattle.rows.specs.Resets.{busOf}
+use Rattle.rows.proofs.Listed.{eqb-turned, among-more}
 use Rattle.rows.proofs.Span.{OneOf, NoneOf, span, each, outside, in-span, in-list, in-rest, is-true}
 
 pub less-or-not : (a b : ℕ) → (a < b) ⊎ (b ≤ a)
@@ -169,17 +170,6 @@ unfolding kindOf otherOf placeOf accessOf rows
 group-agrees a h = same (groupOf (kindOf a)) a (in-span (λ k. is (groupOf (kindOf k)) k) 0 256 tt a (omega arith) (omega arith))
 
 -- an address is one of the 39 exactly where it has a place in the table
-eqb-turned : (a b : ℕ) → eqb a b ≡ eqb b a
-eqb-turned a b = go (eqb b a) refl
-  where
-    go : (t : Bool) → eqb b a ≡ t → eqb a b ≡ t
-    go true e = eq-eqb a b (sym (eqb-true b a e))
-    go false e = ne-eqb a b (λ q. eqb-false b a e (sym q))
-
-among-more : (x : ℕ) (xs : List ℕ) (a : ℕ) → among (x ∷ xs) a ≡ (eqb a x || among xs a)
-among-more x [] a = elim (eqb a x) as (λ b. b ≡ (b || false)) [ true ↦ refl | false ↦ refl ]
-among-more x (y ∷ xs) a = refl
-
 among-found : (rs : List Row) (i a : ℕ) → among (map address rs) a ≡ isAt (placeIn rs i a)
 among-found [] i a = refl
 among-found (r ∷ rs) i a =

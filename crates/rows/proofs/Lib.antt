@@ -1,5 +1,6 @@
 pub mod Span
 pub mod Places
+pub mod Listed
 pub mod Groups
 pub mod Tests
 pub mod Fits

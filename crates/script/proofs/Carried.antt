@@ -182,7 +182,13 @@ pub load-bytes : (line : List ℕ) {at from count : ℕ} → meaningOf line ≡ 
     → read (byteAtOf line from) count ≡ bytesOf (thirdOf (wordsOf (bareOf line)))
 load-bytes line e = ⊎-elim (λ s. rw (s .are .words) (s .bytes)) (λ s. rw (s .words, s .none)) (loaded line e)
 
--- a line has at most 4,096 characters, so that the bytes of a `Load` are at most 2,048
+-- a line has at most 4,096 characters, so that the bytes of a `Send`, and those of a `Load`, are at most 2,048
+pub send-within : (line : List ℕ) {time from count : ℕ} → meaningOf line ≡ command.Send time from count → count ≤ 2048
+send-within line e =
+    let short = not-too-long line (λ m. let z : _≡_ {A = ℕ} 0 1 = cc in omega arith) in
+    let w = sent line e .within in
+    omega arith
+
 pub load-within : (line : List ℕ) {at from count : ℕ} → meaningOf line ≡ command.Load at from count → count ≤ 2048
 load-within line e =
     let short = not-too-long line (λ m. let z : _≡_ {A = ℕ} 0 1 = cc in omega arith) in

@@ -29,11 +29,15 @@ Hold (c ∷ cs) = (meaningOf (text (c .line)) ≡ c .means) × Hold cs
 
 abbrev cases : List Case
 cases =
-    "head 300" says Grow 300
+    "head 300 4711" says Grow 300 4711
+    ∷ "head 0 4294967295" says Grow 0 4294967295
     ∷ "head" says Malformed
-    ∷ "head 1 2" says Malformed
-    ∷ "head 4294967296" says Malformed
-    ∷ "heads 300" says Malformed
+    ∷ "head 1" says Malformed
+    ∷ "head 1 2 3" says Malformed
+    ∷ "head 4294967296 1" says Malformed
+    ∷ "head 1 4294967296" says Malformed
+    ∷ "head 1 -1" says Malformed
+    ∷ "heads 300 1" says Malformed
     ∷ "send 0 001F200000000000003F" says Send 0 7 10
     ∷ "send 0 001F200000000000003" says Malformed
     ∷ "send 7 aF" says Send 7 7 1
@@ -99,7 +103,7 @@ cases =
 
 hold : Hold cases
 unfolding wordsOf bareOf sameOf numberOf signedOf hexOf countOf lastOf argumentsOf nameOf orderOf commandOf spokenOf meaningOf
-hold = (refl, (refl, (refl, (refl, (refl, (refl, (refl, (refl, (refl, (refl, (refl, (refl, (refl, (refl, (refl, (refl, (refl, (refl, (refl, (refl, (refl, (refl, (refl, (refl, (refl, (refl, (refl, (refl, (refl, (refl, (refl, (refl, (refl, (refl, (refl, (refl, (refl, (refl, (refl, (refl, (refl, (refl, (refl, (refl, (refl, (refl, (refl, (refl, (refl, (refl, (refl, (refl, (refl, (refl, (refl, (refl, (refl, (refl, (refl, (refl, (refl, (refl, (refl, (refl, (refl, (refl, tt))))))))))))))))))))))))))))))))))))))))))))))))))))))))))))))))))
+hold = (refl, (refl, (refl, (refl, (refl, (refl, (refl, (refl, (refl, (refl, (refl, (refl, (refl, (refl, (refl, (refl, (refl, (refl, (refl, (refl, (refl, (refl, (refl, (refl, (refl, (refl, (refl, (refl, (refl, (refl, (refl, (refl, (refl, (refl, (refl, (refl, (refl, (refl, (refl, (refl, (refl, (refl, (refl, (refl, (refl, (refl, (refl, (refl, (refl, (refl, (refl, (refl, (refl, (refl, (refl, (refl, (refl, (refl, (refl, (refl, (refl, (refl, (refl, (refl, (refl, (refl, (refl, (refl, (refl, (refl, tt))))))))))))))))))))))))))))))))))))))))))))))))))))))))))))))))))))))
 
 -- as many numbers as there may be, each in its place and up to its own limit
 six : argumentsOf (takesOf (1 ∷ 2 ∷ 3 ∷ 4 ∷ 5 ∷ 6 ∷ []) Nothing) (wordsOf (text "1 2 3 4 5 6")) ≡ givenOf true (1 ∷ 2 ∷ 3 ∷ 4 ∷ 5 ∷ 6 ∷ []) (pos 0) 0 0

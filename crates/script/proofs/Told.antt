@@ -59,7 +59,7 @@ pub record Asking (c n p w : ℕ) : Type 0 where
 abbrev Told : List Word → Command → Type 0
 Told ws command.Blank = Unit {0}
 Told ws command.Malformed = Unit {0}
-Told ws (command.Grow n) = Unit {0}
+Told ws (command.Grow n s) = Unit {0}
 Told ws (command.Send t from n) = Carrying name.Send ws t from n
 Told ws (command.Tick t) = Unit {0}
 Told ws (command.Measure h v) = Unit {0}

@@ -46,11 +46,11 @@ pub record Row : Type 0 where
 abbrev row : String → List ℕ → Last → (Arguments → Command) → Row
 row word limits after made = record { word = word; takes = takesOf limits after; made = made }
 
--- any other word, which makes no command, then head NODE, send TIME HEX, tick TIME, measure HEAD VALUE, keys HEAD STATE, power HEAD, space SIZE,
--- xor HEAD, ask TIME COMMAND NODE PARAMETER WORD DATA, save HEAD, load HEAD HEX, of which HEX may be left out
+-- any other word, which makes no command, then head NODE SERIAL, send TIME HEX, tick TIME, measure HEAD VALUE, keys HEAD STATE, power HEAD,
+-- space SIZE, xor HEAD, ask TIME COMMAND NODE PARAMETER WORD DATA, save HEAD, load HEAD HEX, of which HEX may be left out
 abbrev pub rowOf : Name → Row
 rowOf name.Other = row "" [] last.Nothing (λ a. command.Malformed)
-rowOf name.Head = row "head" (whole ∷ []) last.Nothing (λ a. command.Grow (a .first))
+rowOf name.Head = row "head" (whole ∷ whole ∷ []) last.Nothing (λ a. command.Grow (a .first) (a .second))
 rowOf name.Send = row "send" (whole ∷ []) last.Bytes (λ a. command.Send (a .first) (a .from) (a .count))
 rowOf name.Tick = row "tick" (whole ∷ []) last.Nothing (λ a. command.Tick (a .first))
 rowOf name.Measure = row "measure" (whole ∷ []) last.Signed (λ a. command.Measure (a .first) (a .value))

@@ -32,7 +32,10 @@ const LONGEST: usize = 4096;
 pub enum Command {
     Blank,
     Malformed,
-    Grow(u32),
+    Grow {
+        node: u32,
+        serial: u32,
+    },
     Send {
         time: u32,
         from: usize,
@@ -166,7 +169,7 @@ fn takes(name: Name) -> Takes
 {
     match name {
         Name::Other => Takes([0, 0, 0, 0, 0, 0], 0, Last::Nothing),
-        Name::Head => Takes([WHOLE, 0, 0, 0, 0, 0], 1, Last::Nothing),
+        Name::Head => Takes([WHOLE, WHOLE, 0, 0, 0, 0], 2, Last::Nothing),
         Name::Send => Takes([WHOLE, 0, 0, 0, 0, 0], 1, Last::Bytes),
         Name::Tick => Takes([WHOLE, 0, 0, 0, 0, 0], 1, Last::Nothing),
         Name::Measure => Takes([WHOLE, 0, 0, 0, 0, 0], 1, Last::Signed),
@@ -186,7 +189,10 @@ fn made(name: Name, a: Arguments) -> Command
 {
     match name {
         Name::Other => Command::Malformed,
-        Name::Head => Command::Grow(a.first),
+        Name::Head => Command::Grow {
+            node: a.first,
+            serial: a.second,
+        },
         Name::Send => Command::Send {
             time: a.first,
             from: a.from,

@@ -1,4 +1,4 @@
--- The bytes of a load: gathered one by one, handed on, and just those that stand in the line.
+-- The bytes of a send and of a load: gathered one by one, handed on, and just those that stand in the line.
 -- Assumes nothing.
 use Prim.Native.Nat.{ℕ, zero, suc, _+_, _<_, _≤_}
 use mathlib.Core.Path.{_≡_, refl, ap, sym, _∙_}
@@ -6,8 +6,8 @@ use mathlib.Core.List.{List, [], _∷_, _++_}
 use native.Mathlib.Numerals.{add-one}
 use native.Mathlib.Nat.{min-eq-left}
 use native.Mathlib.Omega.{arith}
-use lib.ListN.{length, take, set, length-append}
-use lib.Seq.{take-suc-set, take-at}
+use lib.ListN.{length, getD, take, set, replicate, length-append}
+use lib.Seq.{length-take-le, take-suc-set, take-at}
 use Rattle.line.specs.Calls.{loadOf}
 use Rattle.text.specs.Lines.{bareOf}
 use Rattle.text.specs.Numbers.{bytesOf}
@@ -16,7 +16,10 @@ use Rattle.script.specs.Words.{wordsOf}
 use Rattle.script.specs.Meaning.{meaningOf, read}
 use Rattle.script.proofs.Carried.{thirdOf, load-bytes, load-within}
 use Rattle.simulate.specs.declared.desk.Desk.{Desk}
-use Rattle.simulate.specs.Desk.{calledOf, obeyedOf}
+use Rattle.simulate.specs.Sheets.{mostCarried}
+use Rattle.simulate.specs.Feeding.{nthOf}
+use Rattle.simulate.specs.Desk.{roomOf, leftOf, calledOf, feedOf, obeyedOf}
+use Rattle.simulate.proofs.Bytes.{fed-alike}
 
 -- a byte more, and as many as are asked for
 one-more : (f : ℕ → ℕ) (n : ℕ) → read f (suc n) ≡ read f n ++ (f n ∷ [])
@@ -27,10 +30,20 @@ as-many : (f : ℕ → ℕ) (n : ℕ) → length (read f n) ≡ n
 as-many f zero = refl
 as-many f (suc n) = ap suc (as-many (λ (i : ℕ). f (suc i)) n)
 
+-- byte `i` of them
+read-at : (f : ℕ → ℕ) (n i : ℕ) → i < n → getD (read f n) i 0 ≡ f i
+read-at f zero i p = absurd (omega arith)
+read-at f (suc n) zero p = refl
+read-at f (suc n) (suc i) p = read-at (λ (k : ℕ). f (suc k)) n i (omega arith)
+
 -- byte `i` laid in its place
 pub gathered : (f : ℕ → ℕ) (room : List ℕ) (i : ℕ) {b : ℕ} → i < length room → b ≡ f i → take i room ≡ read f i
     → take (i + 1) (set room i b) ≡ read f (i + 1)
 gathered f room i {b} h e k = rw (add-one, take-suc-set room i b h, one-more f i, k, e)
+
+-- of the 2,048 bytes as many are lent as were asked for
+pub size : (n : ℕ) → n ≤ mostCarried → length (take n (replicate {A = ℕ} mostCarried 0)) ≡ n
+size n h = length-take-le n (replicate mostCarried 0) h
 
 -- the first `n` bytes of the room, where so many were gathered
 module _ (f : ℕ → ℕ) {m n : ℕ} {g : List ℕ} (size : m ≡ n) (is : g ≡ read f m) (rest : List ℕ) where
@@ -45,6 +58,17 @@ module _ (f : ℕ → ℕ) {m n : ℕ} {g : List ℕ} (size : m ≡ n) (is : g �
 
   pub handed-size : n ≡ length (take n (g ++ rest))
   handed-size = sym (rw handed (as-many f n))
+
+-- bytes that were read are fed as those they were read as
+pub sends : (d : Desk) (f : ℕ → ℕ) (time : ℕ) {n m : ℕ} {bytes : List ℕ} {x : Desk} → x ≡ feedOf d (nthOf bytes) time (length bytes)
+    → bytes ≡ read f n → n ≡ m → x ≡ feedOf d f time m
+unfolding feedOf
+sends d f time {n} {m} fed is e =
+    fed
+    ∙ ap (λ (bs : List ℕ). feedOf d (nthOf bs) time (length bs)) is
+    ∙ ap (feedOf d (nthOf (read f n)) time) (as-many f n)
+    ∙ ap (leftOf d) (fed-alike time (d .line) (nthOf (read f n)) f (roomOf (d .space)) n (read-at f n))
+    ∙ ap (feedOf d f time) e
 
 -- a line that means a `Load` loads just the bytes of its third word, and none where there is no such word: they never are more than there is room for
 pub loads : (d : Desk) (line : List ℕ) {at from count : ℕ} → meaningOf line ≡ command.Load at from count

@@ -65,7 +65,7 @@ spacedOf d size = record { line = d .line; space = size }
 abbrev pub didOf : Command → List ℕ → Desk → Desk
 didOf command.Blank text d = d
 didOf command.Malformed text d = d
-didOf (command.Grow node) text d = calledOf d (growOf (d .line) node)
+didOf (command.Grow node serial) text d = calledOf d (growOf (d .line) node serial)
 didOf (command.Send time from count) text d = feedOf d (byteAtOf text from) time count
 didOf (command.Tick time) text d = calledOf d (tickOf (d .line) time)
 didOf (command.Measure at value) text d = calledOf d (measureOf (d .line) at value)

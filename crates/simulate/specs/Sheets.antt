@@ -12,12 +12,12 @@ use Rattle.text.specs.Text.{text}
 use Rattle.script.specs.Meaning.{byteAtOf, read}
 
 -- as many bytes as a line of a script can have digits for
-abbrev pub mostBrought : ℕ
-mostBrought = 2048
+abbrev pub mostCarried : ℕ
+mostCarried = 2048
 
 -- so many bytes, whose digits start at a place of the line; never more than the most
 abbrev pub broughtOf : List ℕ → ℕ → ℕ → List ℕ
-broughtOf line from count = read (byteAtOf line from) (min count mostBrought)
+broughtOf line from count = read (byteAtOf line from) (min count mostCarried)
 
 -- two digits for each byte of the sheet at the start of the space; only blanks where there is no room for a sheet
 unfoldable pub savedLineOf : List ℕ → List ℕ

@@ -1,6 +1,7 @@
 // A command on the desk: what it calls, and what is written for it.
 use crate::answer;
 use crate::ask;
+use crate::carried;
 use crate::feeding;
 use crate::feeding::Purpose;
 use crate::room;
@@ -15,6 +16,10 @@ use line::calls::Line;
 use script::Command;
 use wire::telegram::Telegram;
 ghost use mathlib.Core.Path.{_≡_};
+ghost use Prim.Native.Nat.{min};
+ghost use lib.ListN.{length};
+ghost use Rattle.script.specs.Meaning.{byteAtOf};
+ghost use Rattle.simulate.specs.Sheets.{mostCarried};
 ghost use Rattle.simulate.specs.Feeding.{nthOf};
 ghost use Rattle.simulate.specs.Desk.{deskOf, hitLineOf, feedOf, askedOf, calledOf, pressedOf, spacedOf, obeyedOf};
 
@@ -77,21 +82,13 @@ fn write_error(number: u64) -> bool {
 }
 
 // Bytes, fed one after another and answered in one line of output.
-fn feed(d: Desk, purpose: Purpose, text: &[u8], time: u32, count: usize) -> Obeyed
-    ensures { λ r. ⌜ r .desk ≡ feedOf d (nthOf purpose (now (text .entry))) time count ⌝ }
+fn feed(d: Desk, purpose: Purpose, bytes: &[u8], time: u32) -> Obeyed
+    ensures { λ r. ⌜ r .desk ≡ feedOf d (nthOf (now (bytes .entry))) time (length (now (bytes .entry))) ⌝ }
 {
     let mut space = [0u8; MOST_SPACE];
     let size = room::within(d.space, MOST_SPACE);
     let mut out = [0u8; 2048];
-    let s = feeding::feed_all(
-        d.line,
-        purpose,
-        text,
-        time,
-        count,
-        &mut space[..size],
-        &mut out,
-    );
+    let s = feeding::feed_all(d.line, purpose, bytes, time, &mut space[..size], &mut out);
     let a = answer::put(&mut out, s.answering, b"\n");
     let line = s.line;
     let desk = Desk {
@@ -104,6 +101,17 @@ fn feed(d: Desk, purpose: Purpose, text: &[u8], time: u32, count: usize) -> Obey
     }
 }
 
+// A send of so many bytes, whose digits start at the place `from`. All are read before the first is fed, so that the line hears them by stretches;
+// a line of a script has no room for more than 2,048.
+fn sent(d: Desk, text: &[u8], time: u32, from: usize, count: usize) -> Obeyed
+    ensures { λ r. ⌜ r .desk ≡ feedOf d (byteAtOf (now (text .entry)) from) time (min count mostCarried) ⌝ }
+{
+    let mut bytes = [0u8; carried::MOST];
+    let n = room::within(count, carried::MOST);
+    carried::gather(&mut bytes[..n], text, from);
+    feed(d, Purpose::Send, &bytes[..n], time)
+}
+
 // A question: the ten bytes of its telegram. Where the master builds none, none is fed.
 fn asked(d: Desk, time: u32, question: Telegram) -> Obeyed
     ensures { λ r. ⌜ r .desk ≡ askedOf d time question ⌝ }
@@ -112,7 +120,7 @@ fn asked(d: Desk, time: u32, question: Telegram) -> Obeyed
     let ten = built.ten;
     let answer = built.answer;
     match answer {
-        master::Answer::Done => feed(d, Purpose::Ask(question), &ten, time, 10),
+        master::Answer::Done => feed(d, Purpose::Ask(question), &ten, time),
         master::Answer::Refused(why) => Obeyed {
             desk: d,
             written: answer::write_refused(why.number()),
@@ -218,8 +226,8 @@ pub(crate) fn obey(d: Desk, text: &[u8], number: u64) -> Obeyed
             desk: d,
             written: write_error(number),
         },
-        Command::Grow(node) => done(d, calls::grow(d.line, node)),
-        Command::Send { time, from, count } => feed(d, Purpose::Send(from), text, time, count),
+        Command::Grow { node, serial } => done(d, calls::grow(d.line, node, serial)),
+        Command::Send { time, from, count } => sent(d, text, time, from, count),
         Command::Tick(time) => done(d, calls::tick(d.line, time)),
         Command::Measure { head, value } => done(d, calls::measure(d.line, head as usize, value)),
         Command::Keys { head, state } => press(d, head as usize, state),

@@ -8,11 +8,11 @@ use line::calls::Line;
 use wire::telegram::Telegram;
 ghost use mathlib.Core.Path.{_≡_};
 ghost use lib.ListN.{length};
-ghost use Rattle.simulate.specs.Feeding.{wordOf, nthOf, fedOf};
+ghost use Rattle.simulate.specs.Feeding.{wordOf, nthOf, fedOf, afterOf};
 
-// What bytes are fed for: a send, whose hex digits start at this place of the text, or an ask of this question, whose telegram the text is.
+// What bytes are fed for: a send, or an ask of this question, whose telegram they are.
 pub(crate) enum Purpose {
-    Send(usize),
+    Send,
     Ask(Telegram),
 }
 
@@ -34,7 +34,7 @@ pub(crate) fn word(space: &[u8]) -> [u8; 21]
     text
 }
 
-// What a byte of a send drew, as it came.
+// What the last byte of a stretch of a send drew, as it came.
 fn put_replies(out: &mut [u8], a: Answering, heard: Heard, space: &[u8]) -> Answering {
     match heard {
         Heard::Replies(n) => {
@@ -51,7 +51,7 @@ fn put_replies(out: &mut [u8], a: Answering, heard: Heard, space: &[u8]) -> Answ
     }
 }
 
-// The first byte says whether the bytes are refused or fed; a refusal is that of all of them.
+// The first stretch says whether the bytes are refused or fed; a refusal is that of all of them.
 fn put_start(
     out: &mut [u8],
     a: Answering,
@@ -62,7 +62,7 @@ fn put_start(
     if is_first {
         return match heard {
             Heard::Replies(_) => match purpose {
-                Purpose::Send(_) => answer::put(out, a, b"sent"),
+                Purpose::Send => answer::put(out, a, b"sent"),
                 Purpose::Ask(_) => answer::put(out, a, b"asked"),
             },
             Heard::Refused(why) => Answering {
@@ -74,7 +74,7 @@ fn put_start(
     a
 }
 
-// What a byte is answered with.
+// What a stretch is answered with.
 fn put_heard(
     out: &mut [u8],
     a: Answering,
@@ -85,37 +85,32 @@ fn put_heard(
 ) -> Answering {
     let start = put_start(out, a, is_first, purpose, heard);
     match purpose {
-        Purpose::Send(_) => put_replies(out, start, heard, space),
+        Purpose::Send => put_replies(out, start, heard, space),
         Purpose::Ask(question) => ask::put_drawn(out, start, ask::told(question, heard, space)),
     }
 }
 
-// Byte i of what is fed; 0 where there is none.
-fn nth(purpose: Purpose, text: &[u8], i: usize) -> u8
-    ensures { λ r. ⌜ r ≡ nthOf purpose (now (text .entry)) i ⌝ }
+// Where bytes go on after a stretch: at the next one. A refusal is that of all of them, so then past the last.
+fn after(heard: Heard, next: usize, end: usize) -> usize
+    ensures { λ r. ⌜ r ≡ afterOf heard next end ⌝ }
 {
-    match purpose {
-        Purpose::Send(from) => script::byte_at(text, from, i),
-        Purpose::Ask(_) => {
-            if i < text.len() {
-                return text[i];
-            }
-            0
-        }
+    match heard {
+        Heard::Replies(_) => next,
+        Heard::Refused(_) => end,
     }
 }
 
-// So many bytes, all at one time and with the same space; the answer to them is put into `out`.
+// All these bytes, at one time and with the same space; the answer to them is put into `out`. They are fed by stretches, since a call copies the
+// whole line, and only a byte that draws a reply has something to be answered before the next.
 pub(crate) fn feed_all(
     line: Line,
     purpose: Purpose,
-    text: &[u8],
+    bytes: &[u8],
     time: u32,
-    count: usize,
     space: &mut [u8],
     out: &mut [u8],
 ) -> Sent
-    ensures { λ r. ⌜ r .line ≡ fedOf (nthOf purpose (now (text .entry))) time (length (now (space .entry))) line count ⌝ }
+    ensures { λ r. ⌜ r .line ≡ fedOf (nthOf (now (bytes .entry))) time (length (now (space .entry))) line (length (now (bytes .entry))) ⌝ }
 {
     let mut l = line;
     let mut a = Answering {
@@ -123,12 +118,12 @@ pub(crate) fn feed_all(
         written: true,
     };
     let mut i: usize = 0;
-    while i < count {
-        let f = calls::byte(l, nth(purpose, text, i), time, space);
-        l = f.line;
-        let heard = f.heard;
+    while i < bytes.len() {
+        let s = calls::until_reply(l, bytes, i, time, space);
+        l = s.line;
+        let heard = s.heard;
         a = put_heard(out, a, i == 0, purpose, heard, space);
-        i += 1;
+        i = after(heard, s.next, bytes.len());
     }
     Sent {
         line: l,

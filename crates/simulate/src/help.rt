@@ -11,7 +11,7 @@ fn words() -> bool {
         b"A line of SIKONETZ5 heads under a script on standard input: one command a line,\nwords separated by blanks or tabs, one line of output for each.\n\n",
     );
     let line = write(
-        b"  head NODE            grow the line by a head; the first is head 0\n  send TIME HEX        feed these bytes (two hex digits each), all at TIME\n  tick TIME            let the heads look at the clock\n",
+        b"  head NODE SERIAL     grow the line by a head; the first is head 0\n  send TIME HEX        feed these bytes (two hex digits each), all at TIME\n  tick TIME            let the heads look at the clock\n",
     );
     let heads = write(
         b"  measure HEAD VALUE   a head's measurement; VALUE may have a minus sign\n  keys HEAD STATE      a head's keys: 1 left, 2 star, 4 up, or a sum of these\n  power HEAD           switch a head off and on\n  space SIZE           space lent for replies and sheets, 0 to 1024; 10 at first\n  xor HEAD             which bits of a head's last damaged telegram were hit\n",
@@ -40,7 +40,7 @@ fn answers() -> bool {
     );
     let saved = write(b"  saved HEX            the sheet, 274 bytes (two hex digits each)\n");
     let refused = write(
-        b"  refused N            1 node number not 1 to 127   4 measurement out of range\n                       2 ninth head                 5 key state above 7\n                       3 no such head               6 space under ten bytes\n                       10 command above 2 or node above 127\n                       11 sheet malformed           13 value out of its row\n                       12 address not among the 39  14 space under 274 bytes\n  error at line N      the line is none of these commands\n",
+        b"  refused N            1 node number not 1 to 127   4 measurement out of range\n                       2 thirty-third head          5 key state above 7\n                       3 no such head               6 space under ten bytes\n                       10 command above 2 or node above 127\n                       11 sheet malformed           13 value out of its row\n                       12 address not among the 39  14 space under 274 bytes\n                       17 serial already on the line\n  error at line N      the line is none of these commands\n",
     );
     form & done & asked & hit & saved & refused
 }

@@ -1,6 +1,7 @@
 // A line under a script: reads commands from standard input, one a line, calls, and writes one line for each.
 mod answer;
 mod ask;
+mod carried;
 mod desk;
 mod feeding;
 mod help;

@@ -1,4 +1,5 @@
 // Sheets in a script: the bytes that a load brings, and the line that shows what a save laid.
+use crate::carried;
 use crate::room;
 use head::calls::Answer;
 use line::calls;
@@ -7,7 +8,6 @@ use line::calls::Line;
 ghost use mathlib.Core.Path.{_≡_};
 ghost use lib.ListN.{length};
 ghost use Rattle.line.specs.Calls.{loadOf, saveOf, saveSpaceOf};
-ghost use Rattle.script.specs.Meaning.{byteAtOf, read};
 ghost use Rattle.simulate.specs.Sheets.{broughtOf, savedLineOf};
 
 // What a save came to: the call's answer, and the line to write where that is Done.
@@ -16,24 +16,13 @@ pub(crate) struct Saved {
     pub text: [u8; 555],
 }
 
-// The bytes of the hex word that starts at the place `from`, as many as there is room for.
-fn gather(room: &mut [u8], text: &[u8], from: usize)
-    ensures { λ _. ⌜ now (room .exit) ≡ read (byteAtOf (now (text .entry)) from) (length (now (room .entry))) ⌝ }
-{
-    let mut i: usize = 0;
-    while i < room.len() {
-        room[i] = script::byte_at(text, from, i);
-        i += 1;
-    }
-}
-
 // A load of so many bytes, whose digits start at the place `from`. A line of a script has no room for more than 2,048.
 pub(crate) fn load(l: Line, head: usize, text: &[u8], from: usize, count: usize) -> Called
     ensures { λ r. ⌜ r ≡ loadOf l head (broughtOf (now (text .entry)) from count) ⌝ }
 {
-    let mut sheet = [0u8; 2048];
-    let n = room::within(count, 2048);
-    gather(&mut sheet[..n], text, from);
+    let mut sheet = [0u8; carried::MOST];
+    let n = room::within(count, carried::MOST);
+    carried::gather(&mut sheet[..n], text, from);
     calls::load(l, head, &sheet[..n])
 }
 

@@ -19,7 +19,7 @@ use Rattle.state.specs.Wellformed.{wellformedOf}
 
 -- ---- the parts that refusal 20 looks at, by what it looks at
 abbrev stored : List ℕ → ℕ → ℕ → Stored
-stored values number offer = record { values = values; number = number; baud = 1; offer = offer; unlocked = false }
+stored values number offer = record { values = values; number = number; baud = 1; offer = offer; serial = 0; unlocked = false }
 
 abbrev list : ℕ → ErrorList
 list count = record { codes = replicate 10 0; count = count }

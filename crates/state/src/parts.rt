@@ -5,14 +5,15 @@ pub struct ErrorList {
     pub count: u32,
 }
 
-// The 39 values as words on the wire, the number and the baud setting in force, the number that is offered by Auto-ID (0: none), and whether
-// the interlock is open.
+// The 39 values as words on the wire, the number and the baud setting in force, the number that is offered by Auto-ID (0: none), the serial number
+// that the head was made with, which nothing changes, and whether the interlock is open.
 #[repr(C)]
 pub struct Stored {
     pub values: [u32; 39],
     pub number: u32,
     pub baud: u32,
     pub offer: u32,
+    pub serial: u32,
     pub unlocked: bool,
 }
 

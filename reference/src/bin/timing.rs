@@ -7,14 +7,20 @@ use std::path::{Path, PathBuf};
 use std::process::{Command, ExitCode, Stdio};
 use std::time::Instant;
 
+/// Callgrind counts a string instruction of x86-64 once for each byte that it moves: while it counts, the C library copies without them.
+const NO_STRING_COPIES: &str = "GLIBC_TUNABLES=glibc.cpu.x86_rep_movsb_threshold=0x7fffffff";
+
 const TELEGRAMS: usize = 20_000;
 const ROUNDS: usize = 5;
 
 /// Heads on the line, and telegrams in a `send` line.
-const SHAPES: [(u32, usize); 6] = [(1, 100), (4, 100), (8, 100), (1, 1), (4, 1), (8, 1)];
+const SHAPES: [(u32, usize); 8] = [(1, 100), (4, 100), (8, 100), (32, 100), (1, 1), (4, 1), (8, 1), (32, 1)];
 
 /// The node number of the first head.
 const FIRST: u32 = 31;
+
+/// The serial of the first head.
+const FIRST_SERIAL: u32 = 4_711;
 
 fn main() -> ExitCode {
     match compare() {
@@ -89,7 +95,8 @@ fn written(folder: &Path, heads: u32, together: usize, telegrams: usize) -> Resu
 
 fn script_of(heads: u32, together: usize, telegrams: usize) -> String {
     let mut random = Random(1);
-    let mut text: String = (0..heads).map(|head| format!("head {}\n", FIRST + head)).collect();
+    let grown = |head| format!("head {} {}\n", FIRST + head, FIRST_SERIAL + head);
+    let mut text: String = (0..heads).map(grown).collect();
     for sent in 0..telegrams {
         if sent % together == 0 {
             text += &format!("\nsend {} ", sent * 20);
@@ -185,7 +192,8 @@ fn has_callgrind() -> bool {
 
 fn instructions(script: &Path, folder: &Path, program: &[String]) -> Result<f64, Error> {
     let out = folder.join("count");
-    let mut counted = vec!["valgrind".to_string(), "--tool=callgrind".to_string()];
+    let mut counted: Vec<String> =
+        ["env", NO_STRING_COPIES, "valgrind", "--tool=callgrind"].map(String::from).into();
     counted.push(format!("--callgrind-out-file={}", out.display()));
     counted.extend(program.iter().cloned());
     run(script, &counted)?;

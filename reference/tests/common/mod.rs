@@ -13,11 +13,11 @@ pub struct Desk {
 
 #[allow(dead_code)]
 impl Desk {
-    /// A line with fresh heads at these numbers.
+    /// A line with fresh heads at these numbers, the first with serial 1, the next with 2 and so on.
     pub fn with_heads(nodes: &[u32]) -> Desk {
         let mut desk = Desk { simulation: Simulation::new(), time: 0 };
-        for node in nodes {
-            assert_eq!(desk.line(&format!("head {node}")), "ok");
+        for (node, serial) in nodes.iter().zip(1..) {
+            assert_eq!(desk.line(&format!("head {node} {serial}")), "ok");
         }
         desk
     }

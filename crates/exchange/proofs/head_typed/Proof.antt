@@ -18,7 +18,7 @@ head-typed-spec =
     (λ c. search needs)
     (λ c κs. tt)
     (λ c. let a = c .before .before .before .args in
-    let e : length (a .t1 .heads) ≡ 8 = search (needs, parts-long) in
+    let e : length (a .t1 .heads) ≡ 32 = search (needs, parts-long) in
     let p : a .k < length (a .t1 .heads) = omega arith in
     λ small. subst Typed (getD-either _ _ (a .k) (a .t1 .heads) p) (c .typed .ensures))
     (λ c. search needs))

@@ -4,6 +4,7 @@
 mod ask;
 mod auto_id;
 mod display;
+mod serial;
 mod sheet;
 mod status_word;
 
@@ -18,6 +19,9 @@ use reference::telegram::{Telegram, WRITE};
 
 pub const LINES: usize = 400;
 
+/// The most that most scripts have: of many heads there is less to be seen of each.
+const FEW_HEADS: usize = 8;
+
 /// Of a hundred steps, in one script after the other: a head in mode 3 shows nothing of windows.
 const DISPLAY_STEPS: [u32; 3] = [18, 1, 4];
 
@@ -31,9 +35,15 @@ const STATUS_WORD_STEPS: [u32; 4] = [4, 13, 8, 9];
 /// Of a hundred of those that are left, likewise.
 const SHEET_STEPS: [u32; 4] = [10, 13, 9, 15];
 
+/// Of a hundred of those that are left, likewise: the line grows by some of them.
+const SERIAL_STEPS: [u32; 5] = [4, 1, 2, 5, 1];
+
 /// Unknown words, missing and extra words, numbers that do not fit, hex digits that are none.
-const LINES_THAT_ARE_NONE: &str = "heads 1|HEAD 1|Send 0 00|head|head 1 2|head -1|head +1|head 1F|head 0x1F|\
-    head 4294967296|head 42949672960|head 18446744073709551617|head 1#|send|send 0|send 0 0|send 0 001F2|\
+const LINES_THAT_ARE_NONE: &str =
+    "heads 1 2|HEAD 1 2|Send 0 00|head|head 1|head 31|head 1 2 3|head -1 2|head +1 2|\
+    head 1F 2|head 0x1F 2|head 4294967296 2|head 42949672960 2|head 18446744073709551617 2|head 1# 2|\
+    head 1 -2|head 1 +2|head 1 -0|head 1 1F|head 1 0x1F|head 1 4294967296|head 1 4294967297|\
+    head 1 18446744073709551617|head 1 2#|head 1,2|send|send 0|send 0 0|send 0 001F2|\
     send 0 0G|send 0 00 00|send 0 0x00|send 4294967296 00|send -1 00|ask|ask 0|ASK 0 0 31 32 0 0|\
     asks 0 0 31 32 0 0|ask0 0 0 31 32 0 0|ask 0 0 31 32 0 0#|tick|tick 1 2|tick 4294967296|tick -0|\
     measure 0|measure 0 1 2|measure 0 2147483648|measure 0 -2147483649|measure 0 -|measure 0 --1|\
@@ -53,6 +63,7 @@ pub struct Generator {
     auto_id_steps: u32,
     status_word_steps: u32,
     sheet_steps: u32,
+    serial_steps: u32,
     /// The sheets that were written so far.
     saved: Vec<Vec<u8>>,
     lines: Vec<Vec<u8>>,
@@ -73,6 +84,7 @@ pub fn script(seed: u64, number: u64) -> Text {
         auto_id_steps: AUTO_ID_STEPS[(number % 4) as usize],
         status_word_steps: STATUS_WORD_STEPS[(number % 4) as usize],
         sheet_steps: SHEET_STEPS[(number % 4) as usize],
+        serial_steps: SERIAL_STEPS[(number % 5) as usize],
         saved: Vec::new(),
         lines: Vec::new(),
     };
@@ -82,6 +94,7 @@ pub fn script(seed: u64, number: u64) -> Text {
     }
     // A step may give several lines.
     generator.lines.truncate(LINES);
+    generator.last_lines();
     let ends_in_newline = generator.random.chance(75);
     Text { lines: generator.lines, ends_in_newline }
 }
@@ -97,13 +110,12 @@ impl Generator {
         if self.random.chance(20) {
             self.sheet_at_no_head();
         }
-        let heads = self.random.pick(&[1, 1, 1, 2, 2, 2, 3, 3, 4, 8]);
-        let are_as_delivered = self.random.chance(20);
-        for _ in 0..heads {
-            match are_as_delivered {
-                true => self.write_line("head 31".to_string()),
-                false => self.grow(),
-            }
+        let as_delivered = self.random.chance(20).then_some(u32::from(FACTORY_NODE));
+        let count = self.head_count();
+        self.grow_by(count, as_delivered);
+        if self.model.line().heads().len() == MOST_HEADS {
+            self.grow_beyond_the_last();
+            self.tick_at_the_far_end();
         }
     }
 
@@ -125,6 +137,9 @@ impl Generator {
         }
         if self.random.chance(self.sheet_steps) {
             return self.sheet();
+        }
+        if self.random.chance(self.serial_steps) {
+            return self.serial();
         }
         match self.random.below(100) {
             0..=35 => self.send_telegrams(),
@@ -182,6 +197,11 @@ impl Generator {
         }
         let number = self.random.below(heads.len() as u32) as usize;
         Some((number, heads[number].clone()))
+    }
+
+    /// Where there is no head, telegrams are written for one as delivered.
+    fn some_head_or_a_new_one(&mut self) -> Head {
+        self.some_head().map_or_else(|| Head::factory(0), |(_, head)| head)
     }
 
     /// A head whose number another head before it has too.
@@ -246,7 +266,7 @@ impl Generator {
     }
 
     fn telegram(&mut self) -> Vec<u8> {
-        let head = self.some_head().map_or_else(Head::factory, |(_, head)| head);
+        let head = self.some_head_or_a_new_one();
         Author { random: &mut self.random, head: &head }.telegram().to_vec()
     }
 
@@ -291,7 +311,7 @@ impl Generator {
     /// Telegrams that were hit, sometimes with a sound one or a restart after them.
     fn send_damaged(&mut self) {
         self.advance();
-        let head = self.some_head().map_or_else(Head::factory, |(_, head)| head);
+        let head = self.some_head_or_a_new_one();
         let mut author = Author { random: &mut self.random, head: &head };
         let count = 1 + author.random.below(4);
         let mut bytes: Vec<u8> = (0..count).flat_map(|_| author.noisy()).collect();
@@ -315,7 +335,7 @@ impl Generator {
     /// Everything that reads tell about a head, in one send.
     fn read_back(&mut self) {
         self.advance();
-        let head = self.some_head().map_or_else(Head::factory, |(_, head)| head);
+        let head = self.some_head_or_a_new_one();
         let author = Author { random: &mut self.random, head: &head };
         let bytes = match author.random.below(6) {
             0 => author.read_all_rows(),
@@ -327,7 +347,7 @@ impl Generator {
 
     fn write_edges(&mut self) {
         self.advance();
-        let head = self.some_head().map_or_else(Head::factory, |(_, head)| head);
+        let head = self.some_head_or_a_new_one();
         let bytes = Author { random: &mut self.random, head: &head }.write_edges();
         self.send(&bytes);
     }
@@ -421,7 +441,7 @@ impl Generator {
         }
     }
 
-    /// Mostly one head; sometimes all, as each hears on its own, or one that is not there.
+    /// Mostly one head; sometimes all, of many the last few, as each hears on its own; or one that is not there.
     fn xor(&mut self) {
         let Some((number, _)) = self.some_head() else {
             return self.refused();
@@ -429,7 +449,7 @@ impl Generator {
         let count = self.model.line().heads().len();
         let numbers = match self.random.below(25) {
             0 => count..count + 1,
-            1..=5 => 0..count,
+            1..=5 => count.saturating_sub(FEW_HEADS)..count,
             _ => number..number + 1,
         };
         for number in numbers {
@@ -440,7 +460,7 @@ impl Generator {
     // Calls that name none.
 
     fn tick(&mut self) {
-        let head = self.some_head().map_or_else(Head::factory, |(_, head)| head);
+        let head = self.some_head_or_a_new_one();
         let time = match (head.monitor_started_at(), self.random.below(10)) {
             (Some(started_at), 0..=6) => {
                 let timeout = head.value(rows::BUS_TIMEOUT_TIME) as u32 * 100;
@@ -457,15 +477,19 @@ impl Generator {
     }
 
     fn grow(&mut self) {
+        let node = self.node_for_a_head();
+        self.grow_at(node);
+    }
+
+    fn node_for_a_head(&mut self) -> u32 {
         let heads = self.model.line().heads();
-        let node = match (heads.last().map(Head::number_in_force), self.random.below(10)) {
+        match (heads.last().map(Head::number_in_force), self.random.below(10)) {
             (Some(number), 0) => u32::from(number),
             // One bit otherwise.
             (Some(number), 1) => u32::from(number ^ 1 << self.random.below(7)).max(1),
             (_, 1..=3) => self.random.pick(&[1, 2, 12, 31, 127]),
-            _ => 1 + self.random.below(127),
-        };
-        self.write_line(format!("head {node}"));
+            _ => self.node_with_few_others(),
+        }
     }
 
     fn space(&mut self) {
@@ -478,6 +502,7 @@ impl Generator {
     fn in_short_space(&mut self) {
         match self.random.below(10) {
             0..=1 => self.keys(),
+            2 if self.random.chance(50) => self.repeat_a_serial(),
             2 => self.refused(),
             3 => self.ask_one(),
             4 => self.sheet_in_short_space(),
@@ -502,8 +527,10 @@ impl Generator {
         let head = if self.random.chance(50) { missing } else { present };
         let far = self.random.pick(&[2_500_001, -2_500_001, 3_000_000, i32::MAX, i32::MIN]);
         let state = self.random.pick(&[8, 9, 255, 256, u32::MAX]);
+        let node = self.node_that_is_none();
+        let serial = self.free_serial();
         let line = match self.random.below(10) {
-            0 => format!("head {}", self.random.pick(&[0, 128, 255, 256, 257, 300, u32::MAX])),
+            0 => format!("head {node} {serial}"),
             1..=2 => format!("measure {head} {far}"),
             3 => format!("measure {head} 7"),
             4..=5 => format!("keys {head} {state}"),
@@ -552,7 +579,7 @@ impl Generator {
     fn odd_bytes(&mut self) {
         let mut line = match self.random.below(7) {
             0 => Vec::new(),
-            1 => b"head 1".to_vec(),
+            1 => format!("head 1 {}", self.random.below(100)).into_bytes(),
             2 => b"xor 0".to_vec(),
             3 => b"save 0".to_vec(),
             4 => b"load 0 00".to_vec(),
@@ -572,7 +599,7 @@ impl Generator {
     }
 
     fn passed_over(&mut self) {
-        let line = self.random.pick(&["", " ", "\t \t", "#", "# head 1", "  #send 0 00", "#\t\u{e9}"]);
+        let line = self.random.pick(&["", " ", "\t \t", "#", "# head 1 2", "  #send 0 00", "#\t\u{e9}"]);
         self.write_raw(line.as_bytes().to_vec());
     }
 }

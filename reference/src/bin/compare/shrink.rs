@@ -255,7 +255,7 @@ mod tests {
 
     #[test]
     fn bytes_of_sends_go_too() {
-        let script = text(&["head 31", "tick 5", "send 7 001122334455", "# x"]);
+        let script = text(&["head 31 4711", "tick 5", "send 7 001122334455", "# x"]);
         let mut has_33 = |script: &Text| script.bytes().windows(2).any(|pair| pair == b"33");
         assert_eq!(shrink_script(script, &mut has_33).bytes(), b"send 7 33\n");
     }
@@ -266,7 +266,7 @@ mod tests {
             Meaning::Command(Command::Ask { question, .. }) => question.data,
             _ => 0,
         };
-        let script = text(&["head 31", "ask 7 0 31 32 4 8", "ask  007 1 31 32 512 9 "]);
+        let script = text(&["head 31 4711", "ask 7 0 31 32 4 8", "ask  007 1 31 32 512 9 "]);
         let mut asks_for_9 = |script: &Text| script.lines.iter().any(|line| data_of(line) == 9);
         assert_eq!(shrink_script(script, &mut asks_for_9).bytes(), b"ask 7 1 31 32 0 9\n");
     }
@@ -274,7 +274,7 @@ mod tests {
     #[test]
     fn rows_of_sheets_go_too() {
         // 04h 1, 05h 0 and 20h 51 (33h); the sheet of 20h alone has the body at 4.
-        let script = text(&["head 31", "load 0 0304000A05000E200012000000010000000000000033", "# x"]);
+        let script = text(&["head 31 4711", "load 0 0304000A05000E200012000000010000000000000033", "# x"]);
         let mut sets_20h = |script: &Text| {
             script.lines.iter().any(|line| match meaning(line) {
                 Meaning::Command(Command::Load { sheet, .. }) => {
@@ -292,13 +292,13 @@ mod tests {
 
     #[test]
     fn heads_before_the_one_needed_go() {
-        let script = text(&["head 1", "head 2", "head 3", "keys 1 7", "power 2"]);
+        let script = text(&["head 1 7", "head 2 8", "head 3 9", "keys 1 7", "power 2"]);
         let mut powers_a_head = |script: &Text| {
             let answers = crate::answers::reference_script(&script.bytes());
             answers.last().is_some_and(|answer| answer == "ok")
                 && script.bytes().windows(5).any(|word| word == b"power")
         };
-        assert_eq!(shrink_script(script, &mut powers_a_head).bytes(), b"head 3\npower 0\n");
+        assert_eq!(shrink_script(script, &mut powers_a_head).bytes(), b"head 3 9\npower 0\n");
     }
 
     #[test]
@@ -322,12 +322,12 @@ mod tests {
 
     #[test]
     fn lines_that_need_each_other_go_together() {
-        let script = text(&["head 1", "keys 0 1", "keys 0 0"]);
+        let script = text(&["head 1 7", "keys 0 1", "keys 0 0"]);
         let mut ones_and_zeros_are_even = |script: &Text| {
             let count = |line: &[u8]| script.lines.iter().filter(|other| *other == line).count();
-            count(b"keys 0 1") == count(b"keys 0 0") && count(b"head 1") == 1
+            count(b"keys 0 1") == count(b"keys 0 0") && count(b"head 1 7") == 1
         };
-        assert_eq!(shrink_script(script, &mut ones_and_zeros_are_even).bytes(), b"head 1\n");
+        assert_eq!(shrink_script(script, &mut ones_and_zeros_are_even).bytes(), b"head 1 7\n");
     }
 
     #[test]

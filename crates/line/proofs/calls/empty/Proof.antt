@@ -1,4 +1,4 @@
--- `line::calls::empty` meets its contract: eight times the factory head.
+-- `line::calls::empty` meets its contract: 32 times the factory head.
 -- Assumes nothing.
 use Rattle.line.specs.Calls.{emptyOf}
 use Rattle.line.proofs.calls.empty.Statement.{statement}

@@ -1,4 +1,4 @@
--- `line::calls::placed` meets its contract: past the eight places a list stays as it is.
+-- `line::calls::placed` meets its contract: past the 32 places a list stays as it is.
 -- Assumes nothing.
 use Prim.Native.Nat.{_≤_}
 use mathlib.Core.Path.{_≡_, refl}
@@ -20,6 +20,6 @@ placed-spec =
     (λ c. search needs)
     (λ c. refl)
     (λ c. let a = c .before .args in
-    let e : length (a .l .heads) ≡ 8 = search (needs, parts-long) in
+    let e : length (a .l .heads) ≡ 32 = search (needs, parts-long) in
     let p : length (a .l .heads) ≤ a .i = omega arith in
     rw (set-out (a .l .heads) (a .i) (a .h) p)))

@@ -1,4 +1,4 @@
--- `line::calls::tick` meets its contract: a line that fits has at most eight heads, and after i turns the first i have heard the tick.
+-- `line::calls::tick` meets its contract: a line that fits has at most 32 heads, and after i turns the first i have heard the tick.
 -- Assumes nothing.
 use Prim.Native.Nat.{_≤_, _<_, _-_}
 use mathlib.Core.Path.{_≡_, refl, sym, _∙_}
@@ -13,7 +13,7 @@ use Rattle.line.proofs.calls.tick.Statement.{statement}
 use Rattle.line.proofs.calls.tick.Tie as tie
 
 abbrev Inv-loop : tie.InvT-loop
-Inv-loop at k₀ n i₀ k i = (i ≤ n) × (n ≤ 8) × (k .heads ≡ each (tickedAt at) i (k₀ .heads)) × (k .count ≡ k₀ .count) × (length (k₀ .heads) ≡ 8)
+Inv-loop at k₀ n i₀ k i = (i ≤ n) × (n ≤ 32) × (k .heads ≡ each (tickedAt at) i (k₀ .heads)) × (k .count ≡ k₀ .count) × (length (k₀ .heads) ≡ 32)
 
 abbrev μ-loop : tie.MeasureT-loop
 μ-loop at k₀ n i₀ k i = n - i

@@ -1,9 +1,9 @@
 -- `simulate::desk::asked` meets its contract, by what the master answers.
 -- Assumes nothing.
 use Prim.Native.Nat.{ℕ}
-use mathlib.Core.Path.{_≡_, refl}
+use mathlib.Core.Path.{_≡_, refl, ap, _∙_}
 use borrow.Author.Needs.{needs}
-use lib.ListN.{getD}
+use lib.ListN.{length, getD}
 use Rattle.wire.specs.declared.telegram.Telegram.{Telegram}
 use Rattle.master.specs.declared.Answer.{Answer}
 use Rattle.master.specs.declared.Built.{Built}
@@ -31,6 +31,8 @@ asked-spec =
     (λ c κs. tt)
     (λ c κs. tt)
     (λ c. let k = c .before .before in
-    answered _ _ _ (k .before .before .before .build .ensures) (k .enum-told .given .1) (c .feed .ensures))
+    let b = k .before .before .before .build in
+    let ten : length (b .result .ten) ≡ 10 = search needs in
+    answered _ _ _ (b .ensures) (k .enum-told .given .1) (c .feed .ensures ∙ ap (feedOf _ _ _) ten))
     (λ c. let k = c .before .before .before in
     answered _ _ _ (k .before .before .before .build .ensures) (k .answer .given .1) refl))

@@ -1,17 +1,21 @@
 -- `simulate::desk::obey` meets its contract, command by command: each callee's promise, at the meaning that the line has.
 -- Assumes nothing.
-use Prim.Native.Nat.{ℕ}
+use Prim.Native.Nat.{ℕ, min}
 use mathlib.Core.List.{List}
 use mathlib.Core.Path.{_≡_, refl, ap, sym, _∙_}
+use native.Mathlib.Nat.{min-eq-left}
 use borrow.Author.Needs.{needs}
 use mir.Syntax.{w32}
 use mir.Facts.{toZ-ofZ}
 use Rattle.line.specs.declared.calls.Called.{Called}
 use Rattle.line.specs.Calls.{measureOf, loadOf}
 use Rattle.script.specs.declared.Command.{Command}
-use Rattle.script.specs.Meaning.{meaningOf}
+use Rattle.script.specs.declared.Command.the-variants as command
+use Rattle.script.specs.Meaning.{meaningOf, byteAtOf}
+use Rattle.script.proofs.Carried.{send-within}
+use Rattle.simulate.specs.Sheets.{mostCarried}
 use Rattle.simulate.specs.declared.desk.Desk.{Desk}
-use Rattle.simulate.specs.Desk.{didOf, calledOf, obeyedOf}
+use Rattle.simulate.specs.Desk.{didOf, calledOf, feedOf, obeyedOf}
 use Rattle.simulate.proofs.desk.obey.Statement.{statement}
 use Rattle.simulate.proofs.desk.obey.Tie as tie
 
@@ -24,6 +28,12 @@ did d text m n e f = ap (λ (k : Command). didOf k text d) (sym f ∙ e)
 called : {m n : Command} (d : Desk) (text : List ℕ) (x : Desk) (c e : Called) → x ≡ calledOf d c → c ≡ e → m ≡ meaningOf text → m ≡ n
     → calledOf d e ≡ didOf n text d → x ≡ obeyedOf d text
 called d text x c e p q s t u = p ∙ ap (calledOf d) q ∙ u ∙ did d text _ _ s t
+
+-- a send: its line never carries more bytes than there is room for
+fed : {m : Command} (d : Desk) (text : List ℕ) (x : Desk) (time from count : ℕ) → x ≡ feedOf d (byteAtOf text from) time (min count mostCarried)
+    → m ≡ meaningOf text → m ≡ command.Send time from count → x ≡ obeyedOf d text
+fed d text x time from count p s t =
+    p ∙ ap (feedOf d (byteAtOf text from) time) (min-eq-left (send-within text (sym s ∙ t))) ∙ did d text _ _ s t
 
 pub obey-spec : {M : Type 1} → statement M
 obey-spec =
@@ -72,7 +82,7 @@ obey-spec =
     (λ c. did _ _ _ _ (c .before .before .before .meaning .ensures) (c .before .enum-told2 .given .1))
     (λ c. let k = c .before .before .before in
     called (k .before .before .before .before .args .d) _ _ _ _ (c .done .ensures) (c .before .grow .ensures) (k .before .before .meaning .ensures) (k .node .given .1) refl)
-    (λ c. let k = c .before .before in rw (c .feed .ensures) (did _ _ _ _ (k .before .before .meaning .ensures) (k .time .given .1)))
+    (λ c. let k = c .before .before in fed _ _ _ _ _ _ (c .sent .ensures) (k .before .before .meaning .ensures) (k .time .given .1))
     (λ c. let k = c .before .before .before in
     called (k .before .before .before .before .args .d) _ _ _ _ (c .done2 .ensures) (c .before .tick .ensures) (k .before .before .meaning .ensures) (k .time2 .given .1) refl)
     (λ c. let k = c .before .before .before in

@@ -1,20 +1,12 @@
 -- `simulate::sheets::load` meets its contract: the bytes gathered are the ones handed on.
 -- Assumes nothing.
-use Prim.Native.Nat.{ℕ, _≤_}
-use mathlib.Core.Path.{_≡_, ap, sym, _∙_}
+use mathlib.Core.Path.{ap, sym, _∙_}
 use borrow.Author.Needs.{needs}
-use lib.ListN.{length, take, replicate}
-use lib.Seq.{length-take-le}
 use Rattle.line.specs.Calls.{loadOf}
 use Rattle.script.specs.Meaning.{read}
-use Rattle.simulate.specs.Sheets.{mostBrought}
-use Rattle.simulate.proofs.Brought.{handed, handed-within, handed-size}
+use Rattle.simulate.proofs.Brought.{size, handed, handed-within, handed-size}
 use Rattle.simulate.proofs.sheets.load.Statement.{statement}
 use Rattle.simulate.proofs.sheets.load.Tie as tie
-
--- of the 2,048 bytes as many are lent as were asked for
-size : (n : ℕ) → n ≤ mostBrought → length (take n (replicate {A = ℕ} mostBrought 0)) ≡ n
-size n h = length-take-le n (replicate mostBrought 0) h
 
 pub load-spec : {M : Type 1} → statement M
 load-spec =

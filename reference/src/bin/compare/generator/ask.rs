@@ -3,7 +3,6 @@
 
 use super::Generator;
 use crate::telegrams::Author;
-use reference::head::Head;
 use reference::master::Question;
 use reference::rows::{self, access, Access};
 use reference::script::hex;
@@ -63,7 +62,7 @@ impl Generator {
     }
 
     fn question(&mut self) -> Question {
-        let head = self.some_head().map_or_else(Head::factory, |(_, head)| head);
+        let head = self.some_head_or_a_new_one();
         question_of(&Author { random: &mut self.random, head: &head }.question())
     }
 
@@ -180,7 +179,7 @@ impl Generator {
     }
 
     /// So that all heads begin anew.
-    fn leave_a_gap(&mut self) {
+    pub(super) fn leave_a_gap(&mut self) {
         self.now = self.now.wrapping_add(self.random.pick(&[11, 11, 12, 50]));
     }
 

@@ -145,7 +145,7 @@ impl Generator {
     }
 
     /// About the moment when the timeout is due.
-    fn tick_when_due(&mut self, number: usize) {
+    pub(super) fn tick_when_due(&mut self, number: usize) {
         let head = self.head(number);
         let timeout = head.value(rows::BUS_TIMEOUT_TIME) as u32 * 100;
         let started_at = head.monitor_started_at().unwrap_or(self.now);

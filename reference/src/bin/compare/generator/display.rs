@@ -95,7 +95,7 @@ impl Generator {
         }
     }
 
-    fn open(&mut self, number: usize) {
+    pub(super) fn open(&mut self, number: usize) {
         if self.head(number).is_locked() {
             self.write_to(number, &[(rows::PROGRAMMING_MODE, 1)]);
         }

@@ -25,15 +25,15 @@ impl Generator {
         let Some((number, _)) = self.some_head() else {
             return self.sheet_at_no_head();
         };
-        match self.random.below(30) {
+        match self.random.below(32) {
             0..=2 => self.save_in_spaces(number),
             3..=8 => self.swap(number),
             9..=11 => self.load_and_restart(number),
             12..=17 => self.load_what_is_refused(number),
-            18 => self.sheet_at_no_head(),
-            19..=20 => self.load_and_lock(number),
-            21..=22 => self.load_after_an_offer(),
-            23..=24 => self.load_near_the_set_point(number),
+            18..=19 => self.sheet_at_no_head(),
+            20..=22 => self.load_and_lock(number),
+            23..=24 => self.load_after_an_offer(),
+            25..=26 => self.load_near_the_set_point(number),
             _ => self.load_amid(number),
         }
     }

@@ -368,7 +368,7 @@ mod tests {
         fn obey(&mut self, command: Command) {
             // Refusals are no concern of the word.
             match command {
-                Command::Head { node } => drop(self.line.grow(node)),
+                Command::Head { node, serial } => drop(self.line.grow(node, serial)),
                 Command::Send { time, bytes } => {
                     for byte in bytes {
                         let answered = self.hear(time, byte);

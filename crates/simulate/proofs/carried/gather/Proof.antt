@@ -1,4 +1,4 @@
--- `simulate::sheets::gather` meets its contract. The invariant: the first i bytes of the room are the first i of the word.
+-- `simulate::carried::gather` meets its contract. The invariant: the first i bytes of the room are the first i of the word.
 -- Assumes nothing.
 use Prim.Native.Nat.{_≤_, _-_}
 use mathlib.Core.Path.{_≡_, refl, sym, _∙_}
@@ -7,8 +7,8 @@ use lib.ListN.{length, take, length-set}
 use lib.Seq.{take-all}
 use Rattle.script.specs.Meaning.{byteAtOf, read}
 use Rattle.simulate.proofs.Brought.{gathered}
-use Rattle.simulate.proofs.sheets.gather.Statement.{statement}
-use Rattle.simulate.proofs.sheets.gather.Tie as tie
+use Rattle.simulate.proofs.carried.gather.Statement.{statement}
+use Rattle.simulate.proofs.carried.gather.Tie as tie
 
 abbrev Inv-loop : tie.InvT-loop
 Inv-loop room₀ text from i₀ room i = (i ≤ length room) × (length room ≡ length room₀) × (take i room ≡ read (byteAtOf text from) i)
