@@ -269,6 +269,11 @@ impl Head {
         self.hear(time, Telegram::received(bytes))
     }
 
+    /// Forgets the bytes of a telegram that has begun: as if they had not been heard, as only ten together are checked.
+    pub fn drop_gathered(&mut self) {
+        self.running.gathered.clear();
+    }
+
     pub fn tick(&mut self, time: u32) {
         let timeout = self.value(rows::BUS_TIMEOUT_TIME) as u32 * TIMEOUT_STEP;
         let Some(started_at) = self.running.monitor_started_at else {

@@ -4,6 +4,8 @@ use crate::head::{Head, HIGHEST_MEASUREMENT};
 use crate::telegram::{Reply, TELEGRAM_LENGTH};
 
 pub const MOST_HEADS: usize = 32;
+/// In bytes: 64 telegrams.
+pub const LONGEST_RACK: usize = 64 * TELEGRAM_LENGTH;
 const HIGHEST_KEY_STATE: u32 = 7;
 
 /// The refusals that a line made by calls alone, a master and a sheet can give, with the documents' numbers.
@@ -20,6 +22,8 @@ pub enum Refusal {
     SheetAddress = 12,
     SheetValue = 13,
     SheetSpace = 14,
+    RackLength = 15,
+    RackSpace = 16,
     SerialOnTheLine = 17,
 }
 
@@ -27,6 +31,13 @@ impl Refusal {
     pub fn number(self) -> u32 {
         self as u32
     }
+}
+
+/// What came of a rack: the replies that were laid, and how many telegrams drew more than one.
+#[derive(Clone, Copy, Debug, Default, PartialEq, Eq)]
+pub struct Racked {
+    pub replies: usize,
+    pub collisions: usize,
 }
 
 #[derive(Clone, Debug, Default)]
@@ -72,6 +83,38 @@ impl Line {
             space[..TELEGRAM_LENGTH].copy_from_slice(reply);
         }
         Ok(replies.len())
+    }
+
+    /// A rack of whole telegrams: every head drops what it has gathered, then all hear the bytes one after another,
+    /// all at this time. The replies stand one behind the other in the space from the place on; a collision leaves
+    /// none, and all other bytes are as they were.
+    pub fn rack(
+        &mut self,
+        time: u32,
+        bytes: &[u8],
+        place: usize,
+        space: &mut [u8],
+    ) -> Result<Racked, Refusal> {
+        if !bytes.len().is_multiple_of(TELEGRAM_LENGTH) || bytes.len() > LONGEST_RACK {
+            return Err(Refusal::RackLength);
+        }
+        // From the end of the space on there is room for no byte, beyond it there is no room at all.
+        let room = space.get_mut(place..).ok_or(Refusal::RackSpace)?;
+        if room.len() < bytes.len() {
+            return Err(Refusal::RackSpace);
+        }
+        self.heads.iter_mut().for_each(Head::drop_gathered);
+        let mut racked = Racked::default();
+        for &byte in bytes {
+            // Ten bytes at least: no reply so far took more room than the telegram that drew it.
+            let rest = &mut room[racked.replies * TELEGRAM_LENGTH..];
+            match self.byte(time, byte, rest).expect("there is room for a reply to every telegram") {
+                0 => {}
+                1 => racked.replies += 1,
+                _ => racked.collisions += 1,
+            }
+        }
+        Ok(racked)
     }
 
     pub fn tick(&mut self, time: u32) {

@@ -1,6 +1,6 @@
 //! The script: what a line means, and the answer to it.
 
-use crate::line::{Line, Refusal};
+use crate::line::{Line, Racked, Refusal};
 use crate::master::{Finding, Question};
 use crate::sheet::WRITTEN_LENGTH;
 use crate::telegram::TELEGRAM_LENGTH;
@@ -21,6 +21,11 @@ line, words separated by blanks or tabs, one line of output for each.
                        build a telegram from these fields, feed its ten bytes,
                        all at TIME, and read what comes back; COMMAND is 0 read,
                        1 write or 2 broadcast, WORD the control word
+  rack TIME PLACE [HEX]
+                       drop the bytes that heads have gathered, feed these whole
+                       telegrams, all at TIME, and lay the replies one behind
+                       the other from PLACE in the space; without HEX there is
+                       no telegram
   tick TIME            let the heads look at the clock
   measure HEAD VALUE   a head's measurement; VALUE may have a minus sign
   keys HEAD STATE      a head's keys: 1 left, 2 star, 4 up, or a sum of these
@@ -28,8 +33,8 @@ line, words separated by blanks or tabs, one line of output for each.
   xor HEAD             which bits were hit in the last damaged telegram heard
   save HEAD            write a head's settings on a sheet
   load HEAD [HEX]      load this sheet into a head; without HEX it has no byte
-  space SIZE           how much space bytes, keys and save lend, 0 to 1024; 10
-                       at first
+  space SIZE           how much space bytes, keys, save and rack lend, 0 to
+                       1024; 10 at first
 
 Numbers are decimal, TIME is in milliseconds. Blank lines and lines whose first
 word starts with # are passed over.
@@ -42,6 +47,9 @@ word starts with # are passed over.
   asked ...            the bytes are fed; then for each reply 'value N', 'error
                        HHHH' with the code as four hex digits, or 'foreign' for
                        one that is no reply to what was asked, or 'collision N'
+  racked N M ...       the telegrams are fed: N replies are laid, and M times
+                       several heads replied at once, which lays none; then each
+                       reply as twenty hex digits
   xor HH               the exclusive-or of its ten bytes as two hex digits; 00
                        if the head has heard none since it last started
   saved HEX            the 274 bytes of the sheet
@@ -51,6 +59,8 @@ word starts with # are passed over.
                        10 command above 2 or node above 127
                        11 malformed sheet           13 value out of its row
                        12 address not among the 39  14 space under 274 bytes
+                       15 rack not of whole telegrams, or of more than 64
+                       16 space from PLACE on shorter than the rack
                        17 serial already on the line
   error at line N      the line is none of these commands
 ";
@@ -60,6 +70,7 @@ pub enum Command {
     Head { node: u32, serial: u32 },
     Send { time: u32, bytes: Vec<u8> },
     Ask { time: u32, question: Question },
+    Rack { time: u32, place: u32, bytes: Vec<u8> },
     Tick { time: u32 },
     Measure { head: u32, value: i32 },
     Keys { head: u32, state: u32 },
@@ -98,6 +109,12 @@ fn command(words: &[&[u8]]) -> Option<Command> {
         [b"send", time, hex] => Some(Command::Send { time: unsigned(time)?, bytes: bytes(hex)? }),
         [b"ask", time, ref fields @ ..] => {
             Some(Command::Ask { time: unsigned(time)?, question: question(fields)? })
+        }
+        [b"rack", time, place] => {
+            Some(Command::Rack { time: unsigned(time)?, place: unsigned(place)?, bytes: Vec::new() })
+        }
+        [b"rack", time, place, hex] => {
+            Some(Command::Rack { time: unsigned(time)?, place: unsigned(place)?, bytes: bytes(hex)? })
         }
         [b"tick", time] => Some(Command::Tick { time: unsigned(time)? }),
         [b"measure", head, value] => Some(Command::Measure { head: unsigned(head)?, value: signed(value)? }),
@@ -212,6 +229,7 @@ impl Simulation {
             Command::Head { node, serial } => self.line.grow(node, serial),
             Command::Send { time, bytes } => return self.send(time, &bytes),
             Command::Ask { time, question } => return self.ask(time, &question),
+            Command::Rack { time, place, bytes } => return self.rack(time, place as usize, &bytes),
             Command::Tick { time } => {
                 self.line.tick(time);
                 Ok(())
@@ -261,6 +279,18 @@ impl Simulation {
             answer.push_str(&told);
         }
         answer
+    }
+
+    fn rack(&mut self, time: u32, place: usize, bytes: &[u8]) -> String {
+        let mut space = vec![0; self.space];
+        match self.line.rack(time, bytes, place, &mut space) {
+            Ok(Racked { replies, collisions }) => {
+                let laid = space[place..].chunks(TELEGRAM_LENGTH).take(replies);
+                let told: String = laid.map(|reply| format!(" {}", hex(reply))).collect();
+                format!("racked {replies} {collisions}{told}")
+            }
+            Err(refusal) => refused(refusal),
+        }
     }
 
     fn keys(&mut self, head: u32, state: u32) -> String {
@@ -363,7 +393,7 @@ mod tests {
             control_word,
             data,
         };
-        let commands: [(&[u8], Command); 20] = [
+        let commands: [(&[u8], Command); 23] = [
             (b"head 31 4711", Command::Head { node: 31, serial: 4_711 }),
             (b"head 0 4294967295", Command::Head { node: 0, serial: u32::MAX }),
             (b" head\t4294967295  0000000000000\r", Command::Head { node: u32::MAX, serial: 0 }),
@@ -377,6 +407,9 @@ mod tests {
                 b"\task 0000000000007 002  0000 00030\t0000512 000000000001 ",
                 Command::Ask { time: 7, question: fields(2, 0, 30, 512, 1) },
             ),
+            (b"rack 7 20 00fFA0", Command::Rack { time: 7, place: 20, bytes: vec![0x00, 0xFF, 0xA0] }),
+            (b"rack 0 4294967295", Command::Rack { time: 0, place: u32::MAX, bytes: Vec::new() }),
+            (b" rack\t007  00000000000 0a\r", Command::Rack { time: 7, place: 0, bytes: vec![0x0A] }),
             (b"tick 4294967295", Command::Tick { time: u32::MAX }),
             (b"measure 0 -2147483648", Command::Measure { head: 0, value: i32::MIN }),
             (b"\t keys  1\t5 ", Command::Keys { head: 1, state: 5 }),
@@ -416,7 +449,10 @@ mod tests {
             ask 0 0 -31 32 0 0|ask 0 0 31 -32 0 0|ask 0 0 31 32 -1 0|ask 0 0 31 32 0 -1|ask 0 0 31 32 0 -0|\
             ask +0 0 31 32 0 0|ask 0 0 1F 32 0 0|ask 0 0 31 0x20 0 0|ask 0 0 31 20h 0 0|ask 0 0 31 32 0 0#|\
             ask 0 0 31 32 0 18446744073709551616|ask 0 read 31 32 0 0|ASK 0 0 31 32 0 0|asked 0 0 31 32 0 0|\
-            ask0 0 0 31 32 0 0|tick|tick 1 2|measure 0|measure 0 2147483648|measure 0 -2147483649|\
+            ask0 0 0 31 32 0 0|rack|rack 0|rack 0 0 0|rack 0 0 000|rack 0 0 0G|rack 0 0 00 00|rack 0 0 0x00|\
+            rack 0 0 #|rack 0 0 -0|rack 0 -0|rack 0 -0 00|rack 0 +0|rack -0 0|rack 0 x|rack 0 1F|rack 0 0x0|rack 0 0#|\
+            rack 4294967296 0|rack 0 4294967296|rack 0 4294967296 00|rack 0 18446744073709551616|rack 0,0|\
+            RACK 0 0|racks 0 0|racked 0 0|rack0 0|tick|tick 1 2|measure 0|measure 0 2147483648|measure 0 -2147483649|\
             measure 0 -|measure 0 --1|measure 0 +1|measure -0 1|keys 0 -1|power|\
             xor|xor 0 0|xor -1|xor -0|xor x|xor 0x0|xor 4294967296|XOR 0|xor0|\
             save|save 0 0|save 0 00|save -0|save +0|save x|save 4294967296|SAVE 0|saved 0|save0|save 0#|\

@@ -45,6 +45,11 @@ fn the_serials() {
 }
 
 #[test]
+fn the_racks() {
+    assert_answers(include_bytes!("../../tests/rack.script"), include_str!("../../tests/rack.answers"));
+}
+
+#[test]
 fn the_cases_of_bench() {
     let bytes = include_bytes!("../../crates/bench/stdin");
     let mut head = Head::factory(4_711);

@@ -34,10 +34,10 @@ use Rattle.effects.specs.Restart.{emptyEar}
 use Rattle.reply.specs.Reply.{readOf, valueReply, replyOf}
 use Rattle.reply.specs.Reply as reply
 use Rattle.reply.specs.Word.{carriedOf}
-use Rattle.head.specs.Hear.{standingOf, gatheredOf, toldOf, tellOf, withEar, stepOf}
+use Rattle.head.specs.Hear.{standingOf, toldOf, tellOf, withEar, stepOf}
 use Rattle.head.specs.Calls.{laidOn, byteOf, byteSpaceOf}
-use Rattle.reply.proofs.Replies.{reply-ten}
 use Rattle.head.proofs.Keeps.{step-fits}
+use Rattle.head.proofs.Passes.{step-ten}
 use Rattle.line.specs.Round.{saidBy}
 use Rattle.demands.specs.Calls.{Calls, Bytes}
 use Rattle.demands.specs.Past.{count, value, inForce}
@@ -92,14 +92,6 @@ unfolding fieldsOf bytesOf
 sent-value f r word v small = word-bytes v small
 
 -- ---- the byte calls of a head that is well-formed, with ten bytes of space, are its steps
-step-ten : (h : Head) (b t : ℕ) → length (stepOf h b t .reply) ≡ 10
-unfolding stepOf tellOf
-step-ten h b t = go (gatheredOf (h .ear) b t .whole) refl
-  where
-    go : (x : Bool) → gatheredOf (h .ear) b t .whole ≡ x → length (stepOf h b t .reply) ≡ 10
-    go true e = rw e (reply-ten _ h _)
-    go false e = rw e
-
 module _ (space : List ℕ) (wide : 10 ≤ length space) where
   pub call-said : (h : Head) (b t : ℕ) (x : Bool) → wellformedOf h ≡ true → stepOf h b t .replied ≡ x
       → replied (byteOf h b t (length space) .heard) (take 10 (byteSpaceOf h b t space)) ≡ saidBy (stepOf h b t)

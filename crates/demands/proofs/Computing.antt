@@ -37,9 +37,10 @@ use Rattle.head.specs.Moves.{overdueOf, tickedOf, measuredOf, pressedOf, leftOf
 use Rattle.head.specs.Calls as head
 use Rattle.head.specs.Outcome as alone
 use Rattle.line.specs.Calls as line
+use Rattle.rack.specs.Rack as rack
 use Rattle.demands.specs.Past.{delivered, mayAdd, grown, marked, since, gather, kept, earBy, lockable, accepted, gives, withdrawn, hearing, loadable, loaded, pressed, change, look, next, account}
 use Rattle.demands.specs.Run.{runs, after, askOf}
 
 unfoldable pub computing : Unit {0}
-unfolding hitOf fieldsOf bytesOf numberOf wordOf distanceOf divisorOf roundedOf heldOf differentialOf absoluteOf relativeOf rows rowOf placeOf accessOf broadcastOf otherOf kindOf busOf resetsOf fitsIn allRightOf isSignedOf readingOf unlistedOf betweenOf rangeIn otherRowOf rangeOf valueOf rises rowRight wellFormedOf knownOf fittingOf storeOf spelledOf sheetOf commandOf _else_ sumCheck nodeCheck commandCheck parameterCheck accessCheck lockableOf lockCheck stateCheck rangeCheck valueCheck numberCheck hushOf lateOf verdictOf systemOf doneBy shownBy refusedBy deedOf judgedOf emptyList rememberedOf entryOf positionOf actualOf shownOf viewOf isDisplay staysOf aimOf aimBitsOf acknowledgedBitsOf restBitsOf aimedOf statusOf withinOf differenceOf lockedOf adoptedStored restartedStored storedBy raisedOf countedOf complainedOf acknowledgedOf restartedFaults faultsBy restartedMeasurement measurementBy noTargets settledOf secondAimed givenOf lackingOf allGivenOf turnedOf targetsBy emptyEar stopped restartedOf adoptedOf deliveredOf freshOf keepsOld carriedOf inputOf readOf answerOf silence said errorReply valueReply replyOf adoptionOf elapsedOf keptEar gatheredOf standingOf restartsOf startedOf toldOf tellOf stepOf inReachOf offerFits storedFits faultsFit keptFits measurementFits earFits wellformedOf head.factoryOf head.nodeFits head.laidOn head.byteOf head.byteSpaceOf head.powerOf head.tickOf head.madeOf alone.called line.emptyOf line.fitsOf line.growOf line.byteOf line.byteSpaceOf line.measureOf line.keysOf line.keysSpaceOf line.powerOf line.namedOf line.placedOf head.measureOf head.keysOf head.keysSpaceOf head.lastHitOf line.lastHitOf head.serialNumberOf line.serialNumberOf head.loadedOf head.loadOf head.saveOf head.saveSpaceOf line.loadOf line.saveOf line.saveSpaceOf line.tickOf pressedOf leftOf starOf upOf keyedOf tickedOf measuredOf overdueOf movedOf calibratedOf switchedOf frozenOf releasedOf resetValue resetOf firstAimed clearedOf positionWord delivered mayAdd grown marked since gather kept earBy lockable accepted gives withdrawn hearing loadable loaded pressed change look next account runs after askOf
+unfolding hitOf fieldsOf bytesOf numberOf wordOf distanceOf divisorOf roundedOf heldOf differentialOf absoluteOf relativeOf rows rowOf placeOf accessOf broadcastOf otherOf kindOf busOf resetsOf fitsIn allRightOf isSignedOf readingOf unlistedOf betweenOf rangeIn otherRowOf rangeOf valueOf rises rowRight wellFormedOf knownOf fittingOf storeOf spelledOf sheetOf commandOf _else_ sumCheck nodeCheck commandCheck parameterCheck accessCheck lockableOf lockCheck stateCheck rangeCheck valueCheck numberCheck hushOf lateOf verdictOf systemOf doneBy shownBy refusedBy deedOf judgedOf emptyList rememberedOf entryOf positionOf actualOf shownOf viewOf isDisplay staysOf aimOf aimBitsOf acknowledgedBitsOf restBitsOf aimedOf statusOf withinOf differenceOf lockedOf adoptedStored restartedStored storedBy raisedOf countedOf complainedOf acknowledgedOf restartedFaults faultsBy restartedMeasurement measurementBy noTargets settledOf secondAimed givenOf lackingOf allGivenOf turnedOf targetsBy emptyEar stopped restartedOf adoptedOf deliveredOf freshOf keepsOld carriedOf inputOf readOf answerOf silence said errorReply valueReply replyOf adoptionOf elapsedOf keptEar gatheredOf standingOf restartsOf startedOf toldOf tellOf stepOf inReachOf offerFits storedFits faultsFit keptFits measurementFits earFits wellformedOf head.factoryOf head.nodeFits head.laidOn head.byteOf head.byteSpaceOf head.powerOf head.tickOf head.madeOf alone.called line.emptyOf line.fitsOf line.growOf line.byteOf line.byteSpaceOf line.measureOf line.keysOf line.keysSpaceOf line.powerOf line.namedOf line.placedOf head.measureOf head.keysOf head.keysSpaceOf head.lastHitOf line.lastHitOf head.serialNumberOf line.serialNumberOf head.loadedOf head.loadOf head.saveOf head.saveSpaceOf line.loadOf line.saveOf line.saveSpaceOf line.tickOf rack.isRack rack.roomFor rack.droppedOf rack.fedOf rack.rackOf rack.rackSpaceOf pressedOf leftOf starOf upOf keyedOf tickedOf measuredOf overdueOf movedOf calibratedOf switchedOf frozenOf releasedOf resetValue resetOf firstAimed clearedOf positionWord delivered mayAdd grown marked since gather kept earBy lockable accepted gives withdrawn hearing loadable loaded pressed change look next account runs after askOf
 computing = tt

@@ -30,7 +30,7 @@ use Rattle.state.specs.Wellformed.{wellformedOf}
 use Rattle.effects.specs.Stored.{adoptedStored, restartedStored, storedBy}
 use Rattle.effects.specs.Aimed.{noTargets, settledOf, firstAimed, secondAimed, givenOf, clearedOf, staysOf, turnedOf, targetsBy}
 use Rattle.effects.proofs.Turns.{stays-same}
-use Rattle.effects.specs.Restart.{restartedOf, withStored, adoptedOf, freshOf}
+use Rattle.effects.specs.Restart.{emptyEar, restartedOf, withStored, adoptedOf, freshOf}
 use Rattle.reply.specs.Reply.{adoptionOf}
 use Rattle.head.specs.declared.calls.Called.{Called}
 use Rattle.head.specs.declared.calls.Fed.{Fed}
@@ -43,7 +43,7 @@ use Rattle.head.specs.Outcome as alone
 use Rattle.head.proofs.Asked.{called-is}
 use Rattle.head.proofs.Keeps.{taken-stored}
 use Rattle.head.proofs.Tests.{either}
-use Rattle.demands.specs.Calls.{Ask, measure, power, load, Call, newHead, byte, tick, named, keys, Calls, _▸_}
+use Rattle.demands.specs.Calls.{Ask, measure, power, load, Call, newHead, byte, tick, named, keys, dropped, Calls, _▸_}
 use Rattle.demands.specs.Past.{accepted, mayAdd, grown, room, makes, names, account, count, serials, value}
 use Rattle.demands.specs.Run.{headIn, product, aloneOf}
 use Rattle.demands.specs.Acts.{actOf, Acted}
@@ -366,6 +366,7 @@ call-steps (keys j s r) n ss k h lt = go (names n j k) (leb s 7 && room r)
     go true true = keys-steps h s
     go true false = idle h
     go false y = idle h
+call-steps (dropped t) n ss k h lt = still h (withEar h (emptyEar t)) refl refl
 
 -- ---- for every list of calls
 abbrev Held : Calls → ℕ → Type 0
@@ -394,6 +395,7 @@ more (byte b t s) n ss k lt = lt
 more (tick t) n ss k lt = lt
 more (named j a) n ss k lt = lt
 more (keys j s r) n ss k lt = lt
+more (dropped t) n ss k lt = lt
 
 differ : (x y : Bool) → x ≢ y → cond x y (not y) ≡ false
 differ true true n = absurd (n refl)

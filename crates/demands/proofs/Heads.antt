@@ -14,9 +14,9 @@ use lib.Seq.{getD-set-same, getD-set-other}
 use Rattle.rows.specs.Among.{among}
 use Rattle.state.specs.declared.parts.Head.{Head}
 use Rattle.state.specs.Wellformed.{wellformedOf}
-use Rattle.effects.specs.Restart.{freshOf}
+use Rattle.effects.specs.Restart.{emptyEar, freshOf}
 use Rattle.head.specs.declared.refusal.Refusal.the-variants.{Node, Full, SerialTaken}
-use Rattle.head.specs.Hear.{stepOf}
+use Rattle.head.specs.Hear.{withEar, stepOf}
 use Rattle.head.specs.Moves.{tickedOf, keyedOf}
 use Rattle.head.specs.Calls as head
 use Rattle.head.specs.Calls.{guarded, factoryOf}
@@ -27,10 +27,11 @@ use Rattle.head.proofs.Serials.{asked-serial}
 use Rattle.line.specs.declared.calls.Line.{Line}
 use Rattle.line.specs.declared.calls.Called.{Called}
 use Rattle.line.specs.declared.calls.Fed.{Fed}
-use Rattle.line.specs.Calls.{serialsAt, fitsOf, headAt, doneWith, refusedWith, placedOf, grownBy, growOf, byteOf, tickOf, keysOf}
+use Rattle.line.specs.Calls.{serialsAt, fitsOf, headAt, doneWith, refusedWith, placedOf, grownBy, growOf, byteOf, keysOf}
 use Rattle.line.proofs.Laws.{fits-small}
-use Rattle.line.proofs.Theorems.{Kept, grown-serials, grow-keeps, byte-keeps, tick-keeps, named-keeps, keys-keeps, named-one, keys-one, namedLine, named-line, keys-line, tick-alone, byte-alone, well-at}
-use Rattle.demands.specs.Calls.{Ask, Call, newHead, byte, tick, named, keys}
+use Rattle.line.proofs.Theorems.{Kept, grown-serials, grow-keeps, byte-keeps, tick-keeps, named-keeps, keys-keeps, namedLine, named-line, keys-line, tick-alone, byte-alone, well-at}
+use Rattle.rack.proofs.Theorems.{none-line, dropped-at, rack-keeps}
+use Rattle.demands.specs.Calls.{Ask, Call, newHead, byte, tick, named, keys, dropped}
 use Rattle.demands.specs.Past.{mayAdd, grown, marked, room, makes, names}
 use Rattle.demands.specs.Run.{product, askOf, aloneOf, after}
 use Rattle.demands.proofs.Named.{ask-is}
@@ -82,6 +83,7 @@ after-fits (byte b t s) l f e = let k = byte-keeps l b t s in (k .fits f, k .pla
 after-fits (tick t) l f e = let k = tick-keeps l t in (k .fits f, k .places ∙ e)
 after-fits (named j a) l f e = let k = ask-keeps a l j in (k .fits f, k .places ∙ e)
 after-fits (keys j s n) l f e = let k = keys-keeps l j s n in (k .fits f, k .places ∙ e)
+after-fits (dropped t) l f e = let k = rack-keeps l [] t 0 0 in (k .fits f, k .places ∙ e)
 
 pub after-serials : (c : Call) (l : Line) → fitsOf l ≡ true → length (l .heads) ≡ 32
     → serialsAt (after (product .onLine) c l) ≡ marked c (l .count) (serialsAt l)
@@ -91,32 +93,17 @@ after-serials (byte b t s) l f e = byte-keeps l b t s .serials
 after-serials (tick t) l f e = tick-keeps l t .serials
 after-serials (named j a) l f e = ask-keeps a l j .serials
 after-serials (keys j s n) l f e = keys-keeps l j s n .serials
+after-serials (dropped t) l f e = rack-keeps l [] t 0 0 .serials
 
 -- ---- how many heads
--- what holds of both ways of a test holds of it
-either : {A B : Type 0} (f : A → B) (b : Bool) (x y : A) (z : B) → f x ≡ z → f y ≡ z → f (cond b x y) ≡ z
-either f true x y z p q = p
-either f false x y z p q = q
-
-byte-count : (l : Line) (b t s : ℕ) → byteOf l b t s .line .count ≡ l .count
-unfolding byteOf
-byte-count l b t s =
-    either (λ (c : Fed). c .line .count) (fitsOf l) _ _ (l .count) (either (λ (c : Fed). c .line .count) (ltb s 10) _ _ (l .count) refl refl) refl
-
-tick-count : (l : Line) (t : ℕ) → tickOf l t .line .count ≡ l .count
-unfolding tickOf
-tick-count l t = either (λ (c : Called). c .line .count) (fitsOf l) _ _ (l .count) refl refl
-
-ask-count : (a : Ask) (l : Line) (j : ℕ) → askOf a l j .line .count ≡ l .count
-ask-count a l j = rw (ask-is a l j) (named-one l j (called (aloneOf a) (headAt l j)) .0)
-
 pub after-count : (c : Call) (l : Line) → fitsOf l ≡ true → after (product .onLine) c l .count ≡ grown c (l .count) (serialsAt l)
 unfolding after grown
 after-count (newHead node serial) l f = grow-count l node serial f
-after-count (byte b t s) l f = byte-count l b t _
-after-count (tick t) l f = tick-count l t
-after-count (named j a) l f = ask-count a l j
-after-count (keys j s n) l f = keys-one l j s n .0
+after-count (byte b t s) l f = byte-keeps l b t s .count
+after-count (tick t) l f = tick-keeps l t .count
+after-count (named j a) l f = ask-keeps a l j .count
+after-count (keys j s n) l f = keys-keeps l j s n .count
+after-count (dropped t) l f = rack-keeps l [] t 0 0 .count
 
 -- ---- which head
 -- what a call that names a head makes of it: nothing where one of its own tests fails
@@ -134,6 +121,7 @@ headBy (byte b t s) n ss k h = cond (room s) (stepOf h b t .head) h
 headBy (tick t) n ss k h = tickedOf h t
 headBy (named j a) n ss k h = cond (names n j k) (askedOf a h) h
 headBy (keys j s r) n ss k h = cond (names n j k) (keyedBy s r h) h
+headBy (dropped t) n ss k h = withEar h (emptyEar t)
 
 -- a head changed in its place, seen at each place
 set-seen : (l : Line) (j k : ℕ) (g : Head → Head) → j < length (l .heads)
@@ -143,6 +131,11 @@ set-seen l j k g lt = go (eqb k j) refl
     go : (c : Bool) → eqb k j ≡ c → getD (set (l .heads) j (g (headAt l j))) k (factoryOf 0) ≡ cond c (g (headAt l k)) (headAt l k)
     go true e = rw (eqb-true k j e) (getD-set-same (l .heads) j (g (headAt l j)) (factoryOf 0) lt)
     go false e = getD-set-other (l .heads) j k (g (headAt l j)) (factoryOf 0) (eqb-false k j e)
+
+-- what holds of both ways of a test holds of it
+either : {A B : Type 0} (f : A → B) (b : Bool) (x y : A) (z : B) → f x ≡ z → f y ≡ z → f (cond b x y) ≡ z
+either f true x y z p q = p
+either f false x y z p q = q
 
 byte-short : (l : Line) (b t s k : ℕ) → s < 10 → headAt (byteOf l b t s .line) k ≡ headAt l k
 unfolding byteOf
@@ -193,7 +186,7 @@ module _ (l : Line) (f : fitsOf l ≡ true) (e : length (l .heads) ≡ 32) where
       rw (keys-line l j s n)
       (named-at j k (λ h. head.keysOf h s n .head) (λ h. cond (leb s 7 && room n) (keyedOf h s .head) h) (λ h. lent-keys-head h s n))
 
-  -- a byte and a tick reach the heads that there are
+  -- a byte, a tick and a rack reach the heads that there are
   pub after-at : (c : Call) (k : ℕ) → k < grown c (l .count) (serialsAt l)
       → headAt (after (product .onLine) c l) k ≡ headBy c (l .count) (serialsAt l) k (headAt l k)
   unfolding after grown headBy
@@ -202,3 +195,4 @@ module _ (l : Line) (f : fitsOf l ≡ true) (e : length (l .heads) ≡ 32) where
   after-at (tick t) k lt = tick-alone l f e k lt t
   after-at (named j a) k lt = ask-at a j k
   after-at (keys j s n) k lt = keys-at j k s n
+  after-at (dropped t) k lt = rw (none-line l t, f) (dropped-at l t f e k lt)

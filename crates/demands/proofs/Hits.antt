@@ -29,7 +29,7 @@ use Rattle.head.specs.declared.calls.Hit.the-variants.{Bits, Refused}
 use Rattle.line.specs.Calls.{lastHitOf}
 use Rattle.line.proofs.Theorems.{well-at}
 use Rattle.head.specs.Calls.{loadedOf}
-use Rattle.demands.specs.Calls.{Ask, measure, power, load, Call, newHead, byte, tick, named, keys, Calls, _▸_}
+use Rattle.demands.specs.Calls.{Ask, measure, power, load, Call, newHead, byte, tick, named, keys, dropped, Calls, _▸_}
 use Rattle.demands.specs.Past.{Entry, grown, room, gather, making, nothing, locked, telling, hearing, storing, loadable, loaded, asked, adopts, adopting, pressing, pressed, makes, names, change, look, count, serials, entry}
 use Rattle.demands.specs.Run.{run, headIn, product}
 use Rattle.demands.specs.Hits.{Shown, damage, hits, lastHit, Hits, AllSeen, cases}
@@ -117,6 +117,7 @@ module _ (h : Head) (e : Entry) (A : Is h e) where
       elim (names n j k) as (λ x. kept (cond x (askedOf a h) h) ≡ cond (cond x (asked a e) nothing .restarts) 0 (kept h)) [ true ↦ ask-kept a | false ↦ refl ]
   step-kept (keys j s r) n ss k =
       elim (names n j k) as (λ x. kept (cond x (keyedBy s r h) h) ≡ cond (cond x (pressed s r e) nothing .restarts) 0 (kept h)) [ true ↦ keys-kept s r | false ↦ refl ]
+  step-kept (dropped t) n ss k = refl
 
 -- ---- for every list of calls
 kept-old : (cs : Calls) (c : Call) (k : ℕ) → k < grown c (count cs) (serials cs) → k < count cs → kept (headIn cs k) ≡ lastHit cs k

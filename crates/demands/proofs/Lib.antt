@@ -46,5 +46,9 @@ pub mod WrongSheets
 pub mod WrongDisplay
 pub mod WrongSerials
 pub mod WrongStretches
+pub mod Racks
+pub mod Turns
+pub mod WrongRacks
+pub mod RackCases
 pub mod Real
 pub mod Outcomes

@@ -18,10 +18,11 @@ use Rattle.effects.specs.Restart.{withStored, restartedOf}
 use Rattle.reply.specs.declared.Said.{Said}
 use Rattle.head.specs.Hear.{standingOf, restartsOf, affectedOf, toldOf, tellOf, stepOf}
 use Rattle.head.specs.Moves.{withTargets}
+use Rattle.head.proofs.Apart.{reply-apart}
 use Rattle.demands.specs.Run.{product}
 use Rattle.demands.specs.Unseen.{offering, AlikeOffered, OfferUnseen}
 use Rattle.demands.proofs.Apart as apart
-use Rattle.demands.proofs.Apart.{reply-apart, Steps, hears, lays}
+use Rattle.demands.proofs.Apart.{Steps, hears, lays}
 
 -- what a deed does to the stored part, but for the offer
 deed-offered : (d : Deed) (s : parts.Stored) (n : ℕ) → withOffer (storedBy d (withOffer s n)) 0 ≡ withOffer (storedBy d s) 0

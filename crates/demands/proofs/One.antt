@@ -36,7 +36,7 @@ use Rattle.line.specs.declared.calls.Line.{Line}
 use Rattle.line.specs.Round.{repliesOf}
 use Rattle.line.specs.Calls.{fitsOf, repliesAt, byteOf}
 use Rattle.line.proofs.Theorems.{byte-alone}
-use Rattle.demands.specs.Calls.{Call, newHead, byte, tick, named, keys, Calls, start, _▸_}
+use Rattle.demands.specs.Calls.{Call, newHead, byte, tick, named, keys, dropped, Calls, start, _▸_}
 use Rattle.demands.specs.Past.{Ear, room, since, gather, kept, earBy, count, entry, inForce}
 use Rattle.demands.specs.Run.{after, built, runs, run, headIn}
 use Rattle.demands.specs.Demand3.{Differ, NoBroadcast, Unchanged}
@@ -50,6 +50,7 @@ heardBy (byte b t s) l = cond (room s) (l ++ (b ∷ [])) l
 heardBy (tick t) l = l
 heardBy (named j a) l = l
 heardBy (keys j s n) l = l
+heardBy (dropped t) l = l
 
 stream : Calls → List ℕ
 stream start = []
@@ -88,6 +89,7 @@ ends-ear (byte b t s) g l e =
 ends-ear (tick t) g l e = e
 ends-ear (named j a) g l e = e
 ends-ear (keys j s n) g l e = e
+ends-ear (dropped t) g l e = ends-none l
 
 ends : (cs : Calls) (k : ℕ) → Ends (entry cs k .ear .bytes) (stream cs)
 unfolding stream
@@ -117,6 +119,7 @@ few-ear (byte b t s) g h =
 few-ear (tick t) g h = h
 few-ear (named j a) g h = h
 few-ear (keys j s n) g h = h
+few-ear (dropped t) g h = few-none
 
 few : (cs : Calls) (k : ℕ) → Few (entry cs k .ear .bytes)
 few = ear-all (λ cs l. Few l) (λ cs. few-none) (λ cs c g h. few-ear c g h)

@@ -25,7 +25,7 @@ use Rattle.order_form.specs.Held.{noRow}
 use Rattle.order_form.specs.Check.{answerOf}
 use Rattle.order_form.proofs.Demands.{demanded}
 use Rattle.order_form.proofs.Only.{neither}
-use Rattle.demands.specs.Calls.{Call, newHead, byte, tick, named, keys, Calls, start, _▸_}
+use Rattle.demands.specs.Calls.{Call, newHead, byte, tick, named, keys, dropped, Calls, start, _▸_}
 use Rattle.demands.specs.Past.{Ear, Entry, Change, nothing, making, delivered, mayAdd, grown, marked, change, look, next, account, count, serials, entry, value, inForce}
 use Rattle.demands.specs.Run.{System, product, machineOf, runs}
 use Rattle.demands.specs.Demand1.{refusedAs, Demand1}
@@ -72,6 +72,7 @@ no-more cs (byte b t s) q = refl
 no-more cs (tick t) q = refl
 no-more cs (named j a) q = refl
 no-more cs (keys j s n) q = refl
+no-more cs (dropped t) q = refl
 
 -- the calls after those that numbered the heads
 record Stays (cs ds : Calls) : Type 0 where

@@ -132,6 +132,7 @@ outcomes =
       line-calls-serial-number = λ κs a y z u v p q. (p ∙ sym q, refl);
       line-calls-load = λ κs a y z u v p q. (p ∙ sym q, refl);
       line-calls-save = λ κs a y z u v p q. (p .0 ∙ sym (q .0), ap (λ s. (tt, (tt, (s, tt)))) (p .1 ∙ sym (q .1)));
+      rack-rack = λ κs a y z u v p q. (p .0 ∙ sym (q .0), ap (λ s. (tt, (tt, (tt, (s, (tt, tt)))))) (p .1 ∙ sym (q .1)));
       order-form-answer-number = λ κs a y z u v p q. (p ∙ sym q, refl);
       order-form-form-blank = λ κs a y z u v p q. (p ∙ sym q, refl);
       order-form-form-add = λ κs a y z u v p q. (p ∙ sym q, refl);

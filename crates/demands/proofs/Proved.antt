@@ -13,7 +13,7 @@ use lib.ListN.{length, getD}
 use Rattle.head.specs.Calls.{factoryOf}
 use Rattle.line.proofs.Laws.{fits-small}
 use Rattle.line.proofs.Apart.{serial-at, serials-length}
-use Rattle.demands.specs.Calls.{Call, newHead, byte, tick, named, keys, power, Calls, start, _▸_, Bytes}
+use Rattle.demands.specs.Calls.{Call, newHead, byte, tick, named, keys, dropped, power, Calls, start, _▸_, Bytes}
 use Rattle.demands.specs.Past.{nothing, making, mayAdd, grown, cutting, asked, names, change, look, next, account, count, serials, value, inForce}
 use Rattle.demands.specs.Run.{built, run, headIn}
 use Rattle.demands.specs.Demand3.{touch, Last, here, earlier, ReadsBack, Demand3}
@@ -49,6 +49,7 @@ before cs (byte b t s) k r lt e = lt
 before cs (tick t) k r lt e = lt
 before cs (named j a) k r lt e = lt
 before cs (keys j s n) k r lt e = lt
+before cs (dropped t) k r lt e = lt
 
 last : (cs : Calls) (k r : ℕ) → k < count cs → Last k r (value cs k r) cs
 unfolding account next look

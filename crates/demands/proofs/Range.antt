@@ -24,7 +24,7 @@ use Rattle.state.proofs.Laws.{told, stored-told, offer-told}
 use Rattle.line.specs.Round.{allFit}
 use Rattle.line.proofs.Laws.{fits-small, fits-heads}
 use Rattle.sheet.specs.Format.{countOf, addressOf, bodyOf, valueOf}
-use Rattle.demands.specs.Calls.{Ask, measure, power, load, IsSheet, Call, newHead, byte, tick, named, keys, Calls, start, _▸_, Bytes}
+use Rattle.demands.specs.Calls.{Ask, measure, power, load, IsSheet, Call, newHead, byte, tick, named, keys, dropped, Calls, start, _▸_, Bytes}
 use Rattle.demands.specs.Past.{Ear, Entry, Change, nothing, making, mayAdd, room, since, gather, kept, earBy, accepted, resets, gives, locked, obeying, withdrawn, dropping, hearing, orElse, written, storing, loadable, loaded, asked, adopts, adopting, pressing, pressed, delivered, makes, names, change, look, next, account, count, serials, entry, value, inForce}
 use Rattle.demands.specs.Run.{run, headIn}
 use Rattle.demands.proofs.Ear.{ear-all}
@@ -89,6 +89,7 @@ ear-small (byte b t x) g bs s =
 ear-small (tick t) g bs s = s
 ear-small (named j a) g bs s = s
 ear-small (keys j x n) g bs s = s
+ear-small (dropped t) g bs s = none-small
 
 gathered-small : (cs : Calls) (k : ℕ) → Bytes cs → Small (entry cs k .ear .bytes)
 gathered-small =
@@ -188,6 +189,7 @@ change-words (keys j x m) n ss k e bs s o = go (ltb j n) refl (eqb k j) refl
     go true p true q = pressed-words x m e (o (rw (eqb-true k j q) (ltb-true j n p)))
     go true p false q = none-words
     go false p y q = none-words
+change-words (dropped t) n ss k e bs s o = none-words
 
 look-word : (o : Option ℕ) (v : ℕ) → Word o → v < 4294967296 → look o v < 4294967296
 unfolding look

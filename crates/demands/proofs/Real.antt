@@ -10,7 +10,7 @@ use Rattle.free_number.specs.Demand as keeper
 use Rattle.master.specs.Demand as master
 use Rattle.master.proofs.Laws.{refusal-ten}
 use Rattle.demands.specs.Run.{product, askOf, after}
-use Rattle.demands.specs.Real.{Real, Plain, RealSheet, RealForm, RealMap, RealMaster, RealSerial}
+use Rattle.demands.specs.Real.{Real, Plain, RealSheet, RealForm, RealMap, RealMaster, RealSerial, RealRack}
 use Rattle.demands.proofs.Computing.{computing}
 
 factory-made : (serial : ℕ) → factoryOf serial ≡ madeOf 31 serial .head
@@ -48,6 +48,7 @@ real =
       line-serial-number-asks = λ κs a. tt;
       line-load-asks = λ κs a. tt;
       line-save-asks = λ κs a. tt;
+      rack-asks = λ κs a. tt;
       factory = λ κs a y u p. p ∙ factory-made (a .0);
       make = λ κs a y u p. p;
       byte = λ κs a y u p. p;
@@ -76,6 +77,7 @@ real =
       line-serial-number = λ κs a y u p. p;
       line-load = λ κs a y u p. p;
       line-save = λ κs a y u p. p;
+      line-rack = λ κs a y u p. p;
     }
 
 pub plain : Plain product
@@ -87,6 +89,7 @@ plain =
       ticked = λ t l. refl;
       asked = λ j a l. refl;
       pressed = λ j s n l. refl;
+      emptied = λ t l. refl;
       measured = λ x. refl;
       powered = refl;
       loaded = λ s. refl;
@@ -157,3 +160,6 @@ real-master =
 
 pub real-serial : RealSerial
 real-serial = record { made-of = refl; grown-of = refl; factory-of = refl }
+
+pub real-rack : RealRack
+real-rack = record { time-of = refl; place-of = refl }

@@ -1,13 +1,13 @@
 -- Demand 1, proved: the refusals are those of the table, in its order, and a refused call changes nothing.
 -- Assumes nothing.
-use Prim.Native.Nat.{ℕ}
+use Prim.Native.Nat.{ℕ, _-_, _%_}
 use native.Mathlib.Omega.{arith}
 use mathlib.Core.Path.{_≡_, refl, _∙_, ap}
-use mathlib.Core.Bool.{Bool, true, false, cond, not, _&&_}
+use mathlib.Core.Bool.{Bool, true, false, cond, not, _&&_, _||_}
 use mathlib.Core.List.{List, [], _∷_, map}
 use mathlib.Core.Option.{Option, none, some}
 use borrow.Author.Tests.{ltb-true, leb-true, leb-false, lt-ltb, le-ltb}
-use lib.Dec.{leb, ltb}
+use lib.Dec.{leb, ltb, eqb}
 use lib.ListN.{length}
 use Rattle.rows.specs.Table.{rows}
 use Rattle.rows.specs.Among.{among}
@@ -38,9 +38,10 @@ use Rattle.line.specs.declared.calls.Line.{Line}
 use Rattle.line.specs.declared.calls.Called.{Called}
 use Rattle.line.specs.Calls.{serialsAt, fitsOf, headAt, growOf, byteOf, byteSpaceOf, tickOf, namedTests, namedOf, keysOf, keysSpaceOf, lastHitOf, saveOf, saveSpaceOf, serialNumberOf}
 use Rattle.line.proofs.Theorems.{grow-refused, tick-refused, named-refused, keys-refused, keys-spared, byte-refused, well-at}
-use Rattle.demands.specs.Calls.{Ask, Call, newHead, byte, tick, named, keys}
+use Rattle.rack.specs.Rack.{isRack, roomFor, droppedOf, Fed, fedOf, filled, refusedWith, racked, rackTests, rackOf, rackSpaceOf}
+use Rattle.demands.specs.Calls.{Ask, Call, newHead, byte, tick, named, keys, dropped}
 use Rattle.demands.specs.Run.{product, aloneOf, after}
-use Rattle.demands.specs.Demand1.{Row, row, first, ownRows, keysRows, saveRows, nodeRow, namedRows, headRows, rowsFor, rowsAlone, ofAnswer, ofHeard, ofHit, ofSerial, refusedAs, refusedAlone, headAfter, lentBy, spaceAfter, Numbered, Demand1}
+use Rattle.demands.specs.Demand1.{Row, row, first, ownRows, keysRows, saveRows, nodeRow, namedRows, headRows, rackRows, rowsFor, rowsAlone, ofAnswer, ofHeard, ofHit, ofSerial, ofRack, refusedAs, refusedAlone, headAfter, lentBy, spaceAfter, Numbered, Demand1}
 use Rattle.demands.proofs.Named.{ask-is}
 use Rattle.demands.proofs.Loading.{all-known-is, all-fitting-is}
 use Rattle.demands.proofs.Twenty.{twenty}
@@ -56,6 +57,10 @@ over a b = go (leb a b) refl
     go : (t : Bool) → leb a b ≡ t → ltb b a ≡ not t
     go true e = le-ltb b a (leb-true a b e)
     go false e = lt-ltb b a (leb-false a b e)
+
+neither : (a b : Bool) → not (a && b) ≡ (not a || not b)
+neither true b = refl
+neither false b = refl
 
 -- ---- tests in their order are rows of the table, in theirs
 abbrev asRow : Bool × Refusal → Row
@@ -177,12 +182,25 @@ module _ (l : Line) where
   line-save j n true true p q =
       let w = well-at l p j (ltb-true _ _ q) in simp (p, flip j (l .count), q) (simp w at (head-save (headAt l j) n))
 
+  -- a rack: 20, 15, 16
+  rack-first : (f : Fed) (ts : Tests) → ofRack (head.guarded (refusedWith l) ts (racked f) .answer) ≡ first (map asRow ts)
+  rack-first f [] = refl
+  rack-first f ((true, why) ∷ ts) = rack-first f ts
+  rack-first f ((false, why) ∷ ts) = refl
+
+  rack-number : (bs : List ℕ) (t n p : ℕ) → ofRack (rackOf l bs t n p .answer) ≡ first (rackRows l (length bs) n p)
+  unfolding rackOf isRack roomFor
+  rack-number bs t n p =
+      rack-first (fedOf (droppedOf l t) bs t) (rackTests l (length bs) n p)
+      ∙ rw (neither (eqb (length bs % 10) 0) (leb (length bs) 640), neither (leb p n) (leb (length bs) (n - p)), over (length bs) 640, over p n, over (length bs) (n - p))
+
   line-number : (c : Call) → refusedAs (product .onLine) c l ≡ first (rowsFor c l)
   line-number (newHead node serial) = grow-number node serial (fitsOf l) (ltb (l .count) 32) (leb 1 node && leb node 127) (among (serialsAt l) serial) refl refl refl refl
   line-number (byte b t s) = byte-number b t s (fitsOf l) (ltb s 10) refl refl
   line-number (tick t) = tick-number t (fitsOf l) refl
   line-number (named j a) = rw (ask-is a l j) (named-number j a (fitsOf l) (ltb j (l .count)) refl refl)
   line-number (keys j s n) = keys-number j s n (fitsOf l) (ltb j (l .count)) refl refl
+  line-number (dropped t) = rack-number [] t 0 0
 
 made-number : (node serial : ℕ) (t : Bool) → (leb 1 node && leb node 127) ≡ t
     → ofAnswer (madeOf node serial .answer) ≡ first (nodeRow node ∷ [])
@@ -231,6 +249,20 @@ byte-same l b t s true false n p q e = let k : none ≡ some n = simp (p, q) at 
 keys-same : (l : Line) (j s : ℕ) (space : List ℕ) (n : ℕ) → refusedAs (product .onLine) (keys j s (length space)) l ≡ some n → keysSpaceOf l j s space ≡ space
 keys-same l j s space n e = let w = heard-as (keysOf l j s (length space) .heard) e in keys-spared l j s space (w .0) (w .1)
 
+rack-same : (l : Line) (bs : List ℕ) (t : ℕ) (space : List ℕ) (p n : ℕ) → ofRack (rackOf l bs t (length space) p .answer) ≡ some n
+    → (rackOf l bs t (length space) p .line ≡ l) × (rackSpaceOf l bs t space p ≡ space)
+unfolding rackOf rackSpaceOf
+rack-same l bs t space p n = go (rackTests l (length bs) (length space) p)
+  where
+    f : Fed
+    f = fedOf (droppedOf l t) bs t
+
+    go : (ts : Tests) → ofRack (head.guarded (refusedWith l) ts (racked f) .answer) ≡ some n
+        → (head.guarded (refusedWith l) ts (racked f) .line ≡ l) × (head.guarded (λ why. space) ts (filled (f .laid) p space) ≡ space)
+    go [] e = absurd (let z : _≡_ {A = ℕ} 0 1 = cc in omega arith)
+    go ((true, why) ∷ ts) e = go ts e
+    go ((false, why) ∷ ts) e = (refl, refl)
+
 line-same : (c : Call) (l : Line) (n : ℕ) → refusedAs (product .onLine) c l ≡ some n → after (product .onLine) c l ≡ l
 unfolding after
 line-same (newHead node serial) l n e = let w = answered (growOf l node serial .answer) e in grow-refused l node serial (w .0) (w .1)
@@ -241,6 +273,7 @@ line-same (named j a) l n e =
     let w = answered (namedOf l j c .answer) (rw (ask-is a l j) at e) in
     ap (λ (x : Called). x .line) (ask-is a l j) ∙ (named-refused l j c (called-same (aloneOf a) (headAt l j)) (w .0) (w .1))
 line-same (keys j s n) l m e = let w = heard-as (keysOf l j s n .heard) e in keys-refused l j s n (w .0) (w .1)
+line-same (dropped t) l m e = rack-same l [] t [] 0 m e .0
 
 space-same : (l : Line) (b t : ℕ) (space : List ℕ) (n : ℕ) → refusedAs (product .onLine) (byte b t (length space)) l ≡ some n → byteSpaceOf l b t space ≡ space
 space-same l b t space n e =
@@ -283,6 +316,7 @@ demand1 =
       head-hit = λ h. head-hit h (wellformedOf h) refl;
       line-save = λ l j n. line-save l j n (fitsOf l) (ltb j (l .count)) refl refl;
       head-save = head-save;
+      line-rack = λ l bs t n p. rack-number l bs t n p;
       line-serial = λ l j. line-serial l j (fitsOf l) (ltb j (l .count)) refl refl;
       head-serial = λ h. head-serial h (wellformedOf h) refl;
       made-number = λ node serial. made-number node serial (leb 1 node && leb node 127) refl;
@@ -294,5 +328,6 @@ demand1 =
       keys-same = keys-same;
       save-same = save-same;
       saved-same = saved-same;
+      rack-same = rack-same;
       head-same = head-same;
     }

@@ -22,7 +22,7 @@ use Rattle.line.proofs.Laws.{fits-small, fits-serials}
 use Rattle.rows.proofs.Listed.{among-at}
 use Rattle.line.proofs.Apart.{differ-at, append-at, append-last}
 use Rattle.line.proofs.Theorems.{well-at}
-use Rattle.demands.specs.Calls.{Call, newHead, byte, tick, named, keys, Calls, _▸_}
+use Rattle.demands.specs.Calls.{Call, newHead, byte, tick, named, keys, dropped, Calls, _▸_}
 use Rattle.demands.specs.Past.{mayAdd, marked, account, count, serials}
 use Rattle.demands.specs.Run.{product, run, headIn, after}
 use Rattle.demands.specs.Lines as lines
@@ -44,6 +44,7 @@ marked-old (byte b t s) n ss k p = refl
 marked-old (tick t) n ss k p = refl
 marked-old (named j a) n ss k p = refl
 marked-old (keys j s r) n ss k p = refl
+marked-old (dropped t) n ss k p = refl
 
 -- ---- on a line that fits
 kept-on-line : (c : Call) (l : Line) (k : ℕ) → lines.Fits l → k < l .count → serialOf (headAt (after (product .onLine) c l) k) ≡ serialOf (headAt l k)

@@ -27,7 +27,7 @@ use Rattle.effects.specs.Aimed.{lackingOf}
 use Rattle.effects.specs.Restart.{emptyEar, restartedOf, withStored, adoptedOf, deliveredOf, freshOf}
 use Rattle.reply.specs.Reply.{adoptionOf}
 use Rattle.head.specs.declared.hear.Stepped.{Stepped}
-use Rattle.head.specs.Hear.{elapsedOf, standingOf, stepOf, tellOf}
+use Rattle.head.specs.Hear.{elapsedOf, standingOf, withEar, stepOf, tellOf}
 use Rattle.head.specs.Moves.{overdueOf, tickedOf, measuredOf, leftKey, starKey, upKey, leftOf, starOf, upOf, pressedOf, withKeys, starTaken, adoptsOf, keyedOf}
 use Rattle.head.specs.Outcome as alone
 use Rattle.line.specs.Calls.{emptyOf, serialsAt, fitsOf}
@@ -36,7 +36,7 @@ use Rattle.head.proofs.Again.{told-stored, told-keys}
 use Rattle.head.proofs.Passes.{unanswered}
 use Rattle.sheet.specs.Format.{wellFormedOf}
 use Rattle.head.specs.Calls.{loadedOf}
-use Rattle.demands.specs.Calls.{Ask, measure, power, load, Call, newHead, byte, tick, named, keys, Calls, start, _▸_}
+use Rattle.demands.specs.Calls.{Ask, measure, power, load, Call, newHead, byte, tick, named, keys, dropped, Calls, start, _▸_}
 use Rattle.demands.specs.Past as past
 use Rattle.demands.specs.Past.{Entry, Change, nothing, delivered, making, mayAdd, grown, marked, room, gather, kept, earBy, noBytes, locked, accepted, obeying, withdrawn, dropping, telling, hearing, allStored, storing, loadable, loaded, cutting, asked, adopts, adopting, pressing, pressed, makes, names, change, look, next, entryBy, account, count, serials, entry}
 use Rattle.demands.specs.Run.{runs, run, headIn}
@@ -200,6 +200,11 @@ module _ (h : Head) (e : Entry) (A : Is h e) where
   unfolding restartedOf emptyEar
   restarted-none x = record { few = omega arith; long = refl; got-is = refl; time-is = inl refl }
 
+  -- nor at a rack of no telegram
+  dropped-none : (t : ℕ) → Gathered (withEar h (emptyEar t)) noBytes
+  unfolding emptyEar
+  dropped-none t = record { few = omega arith; long = refl; got-is = refl; time-is = inl refl }
+
   cut-is : (ear : past.Ear) → Is (restartedOf h) (next cutting ear e)
   unfolding look restartedOf restartedStored
   cut-is ear =
@@ -338,6 +343,7 @@ module _ (h : Head) (e : Entry) (A : Is h e) where
       elim (names n j k) as (λ x. Is (cond x (askedOf a h) h) (next (cond x (asked a e) nothing) (e .ear) e)) [ true ↦ ask-is a | false ↦ idle-is h same ]
   step-is (keys j s r) n ss k =
       elim (names n j k) as (λ x. Is (cond x (keyedBy s r h) h) (next (cond x (pressed s r e) nothing) (e .ear) e)) [ true ↦ keys-is s r | false ↦ idle-is h same ]
+  step-is (dropped t) n ss k = same-stored noBytes (withEar h (emptyEar t)) refl (dropped-none t) refl
 
 -- ---- for every list of calls
 module _ (cs : Calls) (c : Call) (k : ℕ) (lt : k < grown c (count cs) (serials cs)) where
@@ -378,6 +384,7 @@ old-or-new cs (byte b t s) k Q lt old new = old lt
 old-or-new cs (tick t) k Q lt old new = old lt
 old-or-new cs (named j a) k Q lt old new = old lt
 old-or-new cs (keys j s n) k Q lt old new = old lt
+old-or-new cs (dropped t) k Q lt old new = old lt
 
 -- so what holds of a head when it is made, and after each call if it held before, holds of every head
 pub of-heads : (P : Calls → ℕ → Type 0)

@@ -20,11 +20,12 @@ use Rattle.effects.specs.Restart.{restartedOf}
 use Rattle.reply.specs.declared.Said.{Said}
 use Rattle.head.specs.Hear.{standingOf, restartsOf, affectedOf, toldOf, tellOf, stepOf}
 use Rattle.head.specs.Moves.{withFaults}
+use Rattle.head.proofs.Apart.{reply-apart}
 use Rattle.demands.specs.Run.{product}
 use Rattle.demands.specs.Unseen.{keeping, Alike, Unseen}
 use Rattle.demands.proofs.Telling.{marked, deed-apart, deed-spares}
 use Rattle.demands.proofs.Apart as apart
-use Rattle.demands.proofs.Apart.{reply-apart, Steps, hears, lays}
+use Rattle.demands.proofs.Apart.{Steps, hears, lays}
 
 -- ---- the errors after a telegram
 abbrev Same : Faults → Faults → Type 0

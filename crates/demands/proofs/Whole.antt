@@ -7,16 +7,14 @@ use mathlib.Core.List.{List, [], _∷_, _++_, append-assoc, append-nil}
 use native.Mathlib.Omega.{arith}
 use borrow.Author.Tests.{le-leb}
 use lib.ListN.{length, length-append}
-use Rattle.judge.specs.Judged.{judgedOf}
 use Rattle.state.specs.declared.parts.Head.{Head}
-use Rattle.state.specs.declared.parts.Ear.{Ear}
 use Rattle.head.specs.declared.hear.Stepped.{Stepped}
-use Rattle.head.specs.Hear.{standingOf, toldOf, tellOf, withEar, stepOf}
+use Rattle.head.specs.Hear.{tellOf, withEar, stepOf}
+use Rattle.head.proofs.Apart.{tell-apart}
 use Rattle.line.specs.Round.{saidBy}
 use Rattle.demands.specs.Past as past
 use Rattle.demands.specs.Past.{since, gather}
 use Rattle.demands.specs.Demand3.{Steady}
-use Rattle.demands.proofs.Apart.{reply-apart}
 use Rattle.demands.proofs.Ear.{Gathered, ear-short, ear-whole, ear-alone}
 
 -- the head after bytes, byte i at the time τ i, and its replies
@@ -27,12 +25,6 @@ fed (b ∷ bs) τ i h = fed bs τ (suc i) (stepOf h b (τ i) .head)
 abbrev pub said : List ℕ → (ℕ → ℕ) → ℕ → Head → List (List ℕ)
 said [] τ i h = []
 said (b ∷ bs) τ i h = saidBy (stepOf h b (τ i)) ++ said bs τ (suc i) (stepOf h b (τ i) .head)
-
--- a telegram does not look at the bytes gathered
-pub tell-apart : (h : Head) (e : Ear) (ten : List ℕ) (t : ℕ) → tellOf (withEar h e) ten t ≡ tellOf h ten t
-unfolding tellOf standingOf toldOf
-tell-apart h e ten t =
-    let j = judgedOf ten (standingOf h) in rw (reply-apart h e (h .faults .hit) (h .stored .offer) j (toldOf j h t) (toldOf j h t) refl)
 
 -- ---- bytes in time
 gather-on : (g : past.Ear) (b t : ℕ) → since t (g .last) ≤ 10 → gather g b t ≡ g .bytes ++ (b ∷ [])

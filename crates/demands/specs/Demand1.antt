@@ -2,12 +2,12 @@
 -- the table gives it, and changes no head, no line and no byte of the lent reply space. (That no call does harm is what the checker proves of
 -- every function, for every input: no public function has a `requires`.)
 -- Assumes nothing.
-use Prim.Native.Nat.{ℕ}
+use Prim.Native.Nat.{ℕ, _-_, _%_}
 use mathlib.Core.Path.{_≡_}
-use mathlib.Core.Bool.{Bool, cond, not, _&&_}
+use mathlib.Core.Bool.{Bool, cond, not, _&&_, _||_}
 use mathlib.Core.List.{List, [], _∷_}
 use mathlib.Core.Option.{Option, none, some}
-use lib.Dec.{leb, ltb}
+use lib.Dec.{leb, ltb, eqb}
 use lib.IntN.{pos}
 use lib.ListN.{length}
 use lib.Signed.{leZ}
@@ -29,8 +29,10 @@ use Rattle.head.specs.Calls.{factoryOf}
 use Rattle.head.specs.Outcome as alone
 use Rattle.line.specs.declared.calls.Line.{Line}
 use Rattle.line.specs.Calls.{serialsAt, fitsOf}
+use Rattle.rack.specs.declared.Answer as rack
+use Rattle.rack.specs.declared.Answer.the-variants as racked
 use Rattle.sheet.specs.Format.{wellFormedOf}
-use Rattle.demands.specs.Calls.{Call, newHead, byte, tick, named, keys}
+use Rattle.demands.specs.Calls.{Call, newHead, byte, tick, named, keys, dropped}
 use Rattle.demands.specs.Past.{allStored, allRight}
 use Rattle.demands.specs.Twenty.{Twenty}
 use Rattle.demands.specs.Run.{OnHead, OnLine, System, aloneOf, after}
@@ -76,13 +78,20 @@ namedRows l j own = row 20 (not (fitsOf l)) ∷ row 3 (leb (l .count) j) ∷ own
 abbrev pub headRows : Head → List Row → List Row
 headRows h own = row 20 (not (wellformedOf h)) ∷ own
 
--- 20 goes before all others, 2 before 1, 1 before 17, and 3 before 4, 5, 6 and 11 to 14
+-- a rack of so many bytes, with so much space lent and the place in it (document 02, request (x)): 15 for a length that is no multiple of ten or above
+-- 640; 16 for less space from that place than the bytes are, a place beyond the end included
+abbrev pub rackRows : Line → ℕ → ℕ → ℕ → List Row
+rackRows l n room place =
+    row 20 (not (fitsOf l)) ∷ row 15 (not (eqb (n % 10) 0) || ltb 640 n) ∷ row 16 (ltb room place || ltb (room - place) n) ∷ []
+
+-- 20 goes before all others, 2 before 1, 1 before 17, 3 before 4, 5, 6 and 11 to 14, and 15 before 16
 abbrev pub rowsFor : Call → Line → List Row
 rowsFor (newHead node serial) l = row 20 (not (fitsOf l)) ∷ row 2 (leb 32 (l .count)) ∷ nodeRow node ∷ row 17 (among (serialsAt l) serial) ∷ []
 rowsFor (byte b t s) l = row 20 (not (fitsOf l)) ∷ spaceRow s ∷ []
 rowsFor (tick t) l = row 20 (not (fitsOf l)) ∷ ownRows (alone.tick t)
 rowsFor (named j a) l = namedRows l j (ownRows (aloneOf a))
 rowsFor (keys j s n) l = namedRows l j (keysRows s n)
+rowsFor (dropped t) l = rackRows l 0 0 0
 
 -- the same for a head alone
 abbrev pub rowsAlone : alone.Call → Head → List Row
@@ -107,12 +116,17 @@ abbrev pub ofSerial : Serial → Option ℕ
 ofSerial (serial.Number n) = none
 ofSerial (serial.Refused why) = some (refusalOf why)
 
+abbrev pub ofRack : rack.Answer → Option ℕ
+ofRack (racked.Laid counts) = none
+ofRack (racked.Refused why) = some (refusalOf why)
+
 abbrev pub refusedAs : OnLine → Call → Line → Option ℕ
 refusedAs m (newHead node serial) l = ofAnswer (m .grow l node serial .answer)
 refusedAs m (byte b t s) l = ofHeard (m .byte l b t s .heard)
 refusedAs m (tick t) l = ofAnswer (m .tick l t .answer)
 refusedAs m (named j a) l = ofAnswer (m .ask a l j .answer)
 refusedAs m (keys j s n) l = ofHeard (m .keys l j s n .heard)
+refusedAs m (dropped t) l = ofRack (m .rack l [] t 0 0 .answer)
 
 abbrev pub refusedAlone : OnHead → alone.Call → Head → Option ℕ
 refusedAlone m (alone.byte b t space) h = ofHeard (m .byte h b t (length space) .heard)
@@ -152,6 +166,8 @@ pub record Demand1 (m : System) : Type 0 where
   -- and the call that reads the serial number (request (xi)), which has no row of its own either
   pub line-serial : (l : Line) (j : ℕ) → ofSerial (m .onLine .serial l j) ≡ first (namedRows l j [])
   pub head-serial : (h : Head) → ofSerial (m .onHead .serial h) ≡ first (headRows h [])
+  -- and a rack (request (x)), by the length of its bytes
+  pub line-rack : (l : Line) (bs : List ℕ) (t n p : ℕ) → ofRack (m .onLine .rack l bs t n p .answer) ≡ first (rackRows l (length bs) n p)
   pub made-number : (node serial : ℕ) → ofAnswer (m .onHead .make node serial .answer) ≡ first (nodeRow node ∷ [])
   -- 20 exactly when one of its clauses fails
   pub twenty : Twenty
@@ -170,5 +186,7 @@ pub record Demand1 (m : System) : Type 0 where
   pub save-same : (l : Line) (j : ℕ) (space : List ℕ) (n : ℕ)
       → ofAnswer (m .onLine .save l j (length space)) ≡ some n → m .onLine .sheet l j space ≡ space
   pub saved-same : (h : Head) (space : List ℕ) (n : ℕ) → ofAnswer (m .onHead .save h (length space)) ≡ some n → m .onHead .sheet h space ≡ space
+  pub rack-same : (l : Line) (bs : List ℕ) (t : ℕ) (space : List ℕ) (p n : ℕ) → ofRack (m .onLine .rack l bs t (length space) p .answer) ≡ some n
+      → (m .onLine .rack l bs t (length space) p .line ≡ l) × (m .onLine .rackSpace l bs t space p ≡ space)
   pub head-same : (c : alone.Call) (h : Head) (n : ℕ) → refusedAlone (m .onHead) c h ≡ some n
       → (headAfter (m .onHead) c h ≡ h) × (spaceAfter (m .onHead) c h ≡ lentBy c)

@@ -15,7 +15,7 @@ use Rattle.wire.specs.Check.{xorAll, hitOf}
 use Rattle.wire.specs.Telegram.{bytesOf}
 use Rattle.head.specs.declared.refusal.Refusal.the-variants.{NoHead}
 use Rattle.head.specs.declared.calls.Hit.the-variants.{Bits, Refused}
-use Rattle.demands.specs.Calls.{Call, newHead, byte, tick, named, keys, measure, power, Calls, start, _▸_, hearing}
+use Rattle.demands.specs.Calls.{Call, newHead, byte, tick, named, keys, dropped, measure, power, Calls, start, _▸_, hearing}
 use Rattle.demands.specs.Past.{Entry, room, gather, change, look, count, serials, entry}
 use Rattle.demands.specs.Run.{System, machineOf, runs, headAfter}
 use Rattle.demands.specs.Cases.{split}
@@ -39,6 +39,7 @@ hits (byte b t s) e = cond (room s) (damage (gather (e .ear) b t)) none
 hits (tick t) e = none
 hits (named j a) e = none
 hits (keys j s n) e = none
+hits (dropped t) e = none
 
 -- the last of them since head k was restarted last, its making included; 0 where there is none
 unfoldable pub lastHit : Calls → ℕ → ℕ

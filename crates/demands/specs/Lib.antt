@@ -18,6 +18,8 @@ pub mod Sheets
 pub mod Display
 pub mod Serials
 pub mod Stretches
+pub mod Racks
+pub mod Turns
 pub mod WrongHits
 pub mod WrongOffers
 pub mod WrongWords
@@ -25,6 +27,8 @@ pub mod WrongSheets
 pub mod WrongDisplay
 pub mod WrongSerials
 pub mod WrongStretches
+pub mod WrongRacks
+pub mod RackCases
 pub mod Ordered
 pub mod Proposed
 pub mod Wrong

@@ -43,6 +43,7 @@ use Rattle.head.proofs.moves as head-moves
 use Rattle.head.proofs.refusal as head-refusal
 use Rattle.reply.proofs as reply
 use Rattle.line.proofs.calls as line-calls
+use Rattle.rack.proofs as rack
 use Rattle.order_form.proofs.answer as order_form-answer
 use Rattle.order_form.proofs.form as order_form-form
 use Rattle.free_number.proofs.answer as free_number-answer
@@ -187,6 +188,7 @@ pub record Outcomes : Type 0 where
   pub line-calls-serial-number : One line-calls.serial_number.Kinds.ps line-calls.serial_number.Kinds.r line-calls.serial_number.Reads.Post
   pub line-calls-load : One line-calls.load.Kinds.ps line-calls.load.Kinds.r line-calls.load.Reads.Post
   pub line-calls-save : One line-calls.save.Kinds.ps line-calls.save.Kinds.r line-calls.save.Reads.Post
+  pub rack-rack : One rack.rack.Kinds.ps rack.rack.Kinds.r rack.rack.Reads.Post
   pub order-form-answer-number : One order_form-answer.Refusal.number.Kinds.ps order_form-answer.Refusal.number.Kinds.r order_form-answer.Refusal.number.Reads.Post
   pub order-form-form-blank : One order_form-form.blank.Kinds.ps order_form-form.blank.Kinds.r order_form-form.blank.Reads.Post
   pub order-form-form-add : One order_form-form.add.Kinds.ps order_form-form.add.Kinds.r order_form-form.add.Reads.Post

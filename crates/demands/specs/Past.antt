@@ -19,7 +19,7 @@ use Rattle.rows.specs.Access.{stored, accessOf}
 use Rattle.rows.specs.Ranges.{rangeOf, isRight}
 use Rattle.sheet.specs.Each.{each}
 use Rattle.sheet.specs.Format.{countOf, addressOf, valueOf, wellFormedOf}
-use Rattle.demands.specs.Calls.{Ask, measure, power, load, Call, newHead, byte, tick, named, keys, Calls, start, _▸_}
+use Rattle.demands.specs.Calls.{Ask, measure, power, load, Call, newHead, byte, tick, named, keys, dropped, Calls, start, _▸_}
 
 -- ---- what is kept
 -- the bytes that stand gathered, and when the last was heard
@@ -72,6 +72,7 @@ grown (byte b t s) n ss = n
 grown (tick t) n ss = n
 grown (named j a) n ss = n
 grown (keys j s r) n ss = n
+grown (dropped t) n ss = n
 
 -- the serial numbers: that of a new head stands after the others, and no other call touches them
 unfoldable pub marked : Call → ℕ → List ℕ → List ℕ
@@ -80,6 +81,7 @@ marked (byte b t s) n ss = ss
 marked (tick t) n ss = ss
 marked (named j a) n ss = ss
 marked (keys j s r) n ss = ss
+marked (dropped t) n ss = ss
 
 -- ---- bytes are gathered: a byte call with ten bytes of space is heard by every head, and a gap of more than 10 ms starts anew
 abbrev pub room : ℕ → Bool
@@ -96,15 +98,18 @@ gather e b t = cond (leb (since t (e .last)) 10) (e .bytes ++ (b ∷ [])) (b ∷
 unfoldable pub kept : List ℕ → List ℕ
 kept l = cond (ltb (length l) 10) l []
 
+-- no bytes stand gathered
+abbrev pub noBytes : Ear
+noBytes = record { bytes = []; last = 0 }
+
+-- a rack begins with every head dropping what it has gathered
 unfoldable pub earBy : Call → Ear → Ear
 earBy (newHead node serial) e = e
 earBy (byte b t s) e = cond (room s) (record { bytes = kept (gather e b t); last = t }) e
 earBy (tick t) e = e
 earBy (named j a) e = e
 earBy (keys j s n) e = e
-
-abbrev pub noBytes : Ear
-noBytes = record { bytes = []; last = 0 }
+earBy (dropped t) e = noBytes
 
 -- ---- was a telegram accepted, by the number in force and by whether the head was locked: it is sound; it is a write at the number in force
 -- to a parameter that may be written, or a broadcast to one that may be broadcast; it is not locked; a number is offered, by D2h, only where the number
@@ -251,6 +256,7 @@ change (byte b t s) n ss k e = cond (room s) (hearing e (gather (e .ear) b t)) n
 change (tick t) n ss k e = nothing
 change (named j a) n ss k e = cond (names n j k) (asked a e) nothing
 change (keys j s r) n ss k e = cond (names n j k) (pressed s r e) nothing
+change (dropped t) n ss k e = nothing
 
 unfoldable pub look : {A : Type 0} → Option A → A → A
 look (some v) before = v

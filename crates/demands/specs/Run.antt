@@ -22,7 +22,9 @@ use Rattle.line.specs.declared.calls.Line.{Line}
 use Rattle.line.specs.declared.calls.Called.{Called}
 use Rattle.line.specs.declared.calls.Fed.{Fed}
 use Rattle.line.specs.Calls.{emptyOf, headAt, fitsOf, growOf, byteOf, byteSpaceOf, tickOf, measureOf, keysOf, keysSpaceOf, powerOf, lastHitOf, loadOf, saveOf, saveSpaceOf, serialNumberOf}
-use Rattle.demands.specs.Calls.{Ask, measure, power, load, Call, newHead, byte, tick, named, keys, Calls, start, _▸_}
+use Rattle.rack.specs.declared.Racked.{Racked}
+use Rattle.rack.specs.Rack.{rackOf, rackSpaceOf}
+use Rattle.demands.specs.Calls.{Ask, measure, power, load, Call, newHead, byte, tick, named, keys, dropped, Calls, start, _▸_}
 
 -- ---- the calls on a head alone: it is made with a node number and a serial number; a byte, by its time and the length of the space lent, and the space after it;
 -- a tick, a measurement, power, a sheet loaded; what the last damaged telegram was hit by; a key state, by the length of the space lent, and the
@@ -40,7 +42,8 @@ pub record OnHead : Type 0 where
   pub serial : Head → Serial
 
 -- the calls on a line: it is grown by a node number and a serial number; a byte; a tick; a call that names a head; what the last damaged telegram that a head heard
--- was hit by; a key state of the head that is named; its sheet; its serial number
+-- was hit by; a key state of the head that is named; its sheet; its serial number; a rack of telegrams, by its bytes, their time, the length of the
+-- space lent and the place in it, and the space after it
 pub record OnLine : Type 0 where
   pub grow : Line → ℕ → ℕ → Called
   pub byte : Line → ℕ → ℕ → ℕ → Fed
@@ -53,12 +56,14 @@ pub record OnLine : Type 0 where
   pub save : Line → ℕ → ℕ → Answer
   pub sheet : Line → ℕ → List ℕ → List ℕ
   pub serial : Line → ℕ → Serial
+  pub rack : Line → List ℕ → ℕ → ℕ → ℕ → Racked
+  pub rackSpace : Line → List ℕ → ℕ → List ℕ → ℕ → List ℕ
 
 pub record System : Type 0 where
   pub onHead : OnHead
   pub onLine : OnLine
 
--- ---- the product: the definitions that the contracts of the crates head and line cite
+-- ---- the product: the definitions that the contracts of the crates head, line and rack cite
 unfoldable pub askOf : Ask → Line → ℕ → Called
 askOf (measure m) l j = measureOf l j m
 askOf power l j = powerOf l j
@@ -91,6 +96,8 @@ product =
         save = saveOf;
         sheet = saveSpaceOf;
         serial = serialNumberOf;
+        rack = rackOf;
+        rackSpace = rackSpaceOf;
       };
     }
 
@@ -107,6 +114,7 @@ after m (byte b t s) l = m .byte l b t s .line
 after m (tick t) l = m .tick l t .line
 after m (named j a) l = m .ask a l j .line
 after m (keys j s n) l = m .keys l j s n .line
+after m (dropped t) l = m .rack l [] t 0 0 .line
 
 -- ---- what demand 3 asks of a machine
 pub record Machine : Type 1 where

@@ -23,7 +23,8 @@ use Rattle.head.specs.Outcome as alone
 use Rattle.line.specs.declared.calls.Line.{Line}
 use Rattle.line.specs.declared.calls.Called.{Called}
 use Rattle.line.specs.Calls as line
-use Rattle.demands.specs.Calls.{Ask, Call, newHead, byte, tick, named, keys}
+use Rattle.rack.specs.Rack as rack
+use Rattle.demands.specs.Calls.{Ask, Call, newHead, byte, tick, named, keys, dropped}
 use Rattle.demands.specs.Run.{OnHead, OnLine, System, product, askOf, after, Machine, withEar, machineOf}
 use Rattle.demands.specs.Demand1.{Demand1}
 use Rattle.demands.specs.Demand2.{Demand2}
@@ -57,6 +58,8 @@ refusing why =
         save = λ l j n. answer.Refused why;
         sheet = λ l j x. x;
         serial = λ l j. serial.Refused why;
+        rack = λ l bs t n p. rack.refusedWith l why;
+        rackSpace = λ l bs t x p. x;
       };
     }
 
@@ -88,6 +91,8 @@ unchanging =
         save = line.saveOf;
         sheet = line.saveSpaceOf;
         serial = line.serialNumberOf;
+        rack = λ l bs t n p. record { line = l; answer = rack.rackOf l bs t n p .answer };
+        rackSpace = rack.rackSpaceOf;
       };
     }
 
@@ -119,6 +124,8 @@ counting k =
         save = line.saveOf;
         sheet = line.saveSpaceOf;
         serial = line.serialNumberOf;
+        rack = rack.rackOf;
+        rackSpace = rack.rackSpaceOf;
       };
     }
 
@@ -159,6 +166,8 @@ lineSaying f =
       save = line.saveOf;
       sheet = line.saveSpaceOf;
       serial = line.serialNumberOf;
+      rack = rack.rackOf;
+      rackSpace = rack.rackSpaceOf;
     }
 
 -- the same reply always
@@ -251,6 +260,7 @@ echoAfter (byte b t s) l = echoedLine l (after (product .onLine) (byte b t s) (l
 echoAfter (tick t) l = record { line = after (product .onLine) (tick t) (l .line); done = l .done }
 echoAfter (named j a) l = record { line = after (product .onLine) (named j a) (l .line); done = l .done }
 echoAfter (keys j s n) l = record { line = after (product .onLine) (keys j s n) (l .line); done = l .done }
+echoAfter (dropped t) l = record { line = after (product .onLine) (dropped t) (l .line); done = l .done }
 
 abbrev pub echoing : Machine
 echoing =
@@ -300,6 +310,8 @@ hasty =
         save = line.saveOf;
         sheet = line.saveSpaceOf;
         serial = line.serialNumberOf;
+        rack = rack.rackOf;
+        rackSpace = rack.rackSpaceOf;
       };
     }
 

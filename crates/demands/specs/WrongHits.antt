@@ -20,6 +20,7 @@ use Rattle.head.specs.Outcome as alone
 use Rattle.line.specs.declared.calls.Line.{Line}
 use Rattle.line.specs.Round.{each}
 use Rattle.line.specs.Calls as line
+use Rattle.rack.specs.Rack as rack
 use Rattle.demands.specs.Run.{System, product, withEar, askOf}
 use Rattle.demands.specs.Demand2.{Demand2}
 use Rattle.demands.specs.Hits.{Hits}
@@ -55,6 +56,8 @@ keepingBy f =
         save = line.saveOf;
         sheet = line.saveSpaceOf;
         serial = line.serialNumberOf;
+        rack = rack.rackOf;
+        rackSpace = rack.rackSpaceOf;
       };
     }
 

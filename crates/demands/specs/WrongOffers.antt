@@ -24,6 +24,7 @@ use Rattle.head.specs.Calls as head
 use Rattle.head.specs.Outcome as alone
 use Rattle.line.specs.declared.calls.Line.{Line}
 use Rattle.line.specs.Calls as line
+use Rattle.rack.specs.Rack as rack
 use Rattle.demands.specs.Run.{System, product, askOf, machineOf}
 use Rattle.demands.specs.Demand2.{Demand2}
 use Rattle.demands.specs.Demand3.{Demand3}
@@ -53,6 +54,8 @@ eager =
         save = line.saveOf;
         sheet = line.saveSpaceOf;
         serial = line.serialNumberOf;
+        rack = rack.rackOf;
+        rackSpace = rack.rackSpaceOf;
       };
     }
 

@@ -8,3 +8,4 @@ pub mod Serials
 pub mod Refused
 pub mod Passes
 pub mod Again
+pub mod Apart

@@ -7,7 +7,7 @@ use mathlib.Core.Bool.{Bool, true, false, not, and-eq-true-iff}
 use mathlib.Core.List.{List}
 use borrow.Author.Tests.{eqb-true}
 use lib.Dec.{eqb}
-use lib.ListN.{getD, replicate}
+use lib.ListN.{length, getD, replicate}
 use Rattle.wire.specs.Check.{hitOf}
 use Rattle.wire.specs.Telegram.{fieldsOf}
 use Rattle.judge.specs.declared.verdict.Verdict.the-variants.{Silent}
@@ -28,6 +28,7 @@ use Rattle.head.specs.declared.hear.Gathered.{Gathered}
 use Rattle.head.specs.declared.hear.Stepped.{Stepped}
 use Rattle.head.specs.Hear.{gatheredOf, standingOf, restartsOf, toldOf, passesOf, passedOf, tellOf, withEar, stepOf}
 use Rattle.reply.specs.Reply.{silence, replyOf}
+use Rattle.reply.proofs.Replies.{reply-ten}
 
 -- a head after a byte that draws no reply
 abbrev pub unanswered : Head → Stepped
@@ -66,3 +67,12 @@ module _ (h : Head) (b at : ℕ) (g : Gathered) (e : g ≡ gatheredOf (h .ear) b
   pub step-told : g .whole ≡ true → tellOf h (g .ten) at ≡ stepOf h b at
   unfolding stepOf
   step-told w = rw (← e, w)
+
+-- whether it is sent or not, a reply has ten bytes
+pub step-ten : (h : Head) (b t : ℕ) → length (stepOf h b t .reply) ≡ 10
+unfolding stepOf tellOf
+step-ten h b t = go (gatheredOf (h .ear) b t .whole) refl
+  where
+    go : (x : Bool) → gatheredOf (h .ear) b t .whole ≡ x → length (stepOf h b t .reply) ≡ 10
+    go true e = rw e (reply-ten _ h _)
+    go false e = rw e

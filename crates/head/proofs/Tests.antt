@@ -35,3 +35,10 @@ pub says : {C : Type 0} (o : C → Option Refusal) (f : Refusal → C) (x : C) (
 says o f x [] r d = d
 says o f x ((true, why) ∷ ts) r d = says o f x ts r d
 says o f x ((false, why) ∷ ts) r d = r why
+
+-- a call that no test refused: all of them hold, and whatever else they guard is what it is without them
+pub passed : {B C : Type 0} (P : B → Type 0) (g : Refusal → B) (x : B) (f : Refusal → C) (y : C) (ts : Tests)
+    → ((why : Refusal) → P (g why) → ⊥) → P (guarded g ts x) → P x × (guarded f ts y ≡ y) × Hold ts
+passed P g x f y [] never p = (p, refl, tt)
+passed P g x f y ((true, why) ∷ ts) never p = let z = passed P g x f y ts never p in (z .0, z .1, (refl, z .2))
+passed P g x f y ((false, why) ∷ ts) never p = absurd (never why p)

@@ -12,6 +12,8 @@ pub enum Refusal {
     Sheet(sheet::refusal::Refusal),
     Malformed,
     SerialTaken,
+    RackLength,
+    RackSpace,
 }
 
 impl Refusal {
@@ -26,6 +28,10 @@ impl Refusal {
     pub const KEYS: u32 = 5;
 
     pub const SPACE: u32 = 6;
+
+    pub const RACK_LENGTH: u32 = 15;
+
+    pub const RACK_SPACE: u32 = 16;
 
     pub const SERIAL_TAKEN: u32 = 17;
 
@@ -45,6 +51,8 @@ impl Refusal {
             Refusal::Sheet(why) => why.number(),
             Refusal::Malformed => Refusal::MALFORMED,
             Refusal::SerialTaken => Refusal::SERIAL_TAKEN,
+            Refusal::RackLength => Refusal::RACK_LENGTH,
+            Refusal::RackSpace => Refusal::RACK_SPACE,
         }
     }
 }

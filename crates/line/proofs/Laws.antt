@@ -17,22 +17,27 @@ use Rattle.head.specs.declared.hear.Stepped.{Stepped}
 use Rattle.head.specs.Hear.{stepOf}
 use Rattle.line.specs.declared.round.Replies.{Replies}
 use Rattle.line.specs.declared.calls.Line.{Line}
-use Rattle.line.specs.Round.{each, allFit, steppedBy, saidBy, repliesOf, noReply, counted, laidFor}
+use Rattle.line.specs.Round.{each, allFit, saidBy, repliesBy, repliesOf, noReply, counted, laidFor}
 use Rattle.line.specs.Serials.{allDiffer}
 use Rattle.line.specs.Calls.{serialsAt, fitsOf, laidBy}
 
 -- f at the ith element, after f at the first i
-pub each-turn : {A : Type 0} (f : A → A) (d : A) (i : ℕ) (xs : List A) → i < length xs
+each-turn : {A : Type 0} (f : A → A) (d : A) (i : ℕ) (xs : List A) → i < length xs
     → set (each f i xs) i (f (getD xs i d)) ≡ each f (suc i) xs
 each-turn f d i [] p = absurd (not-suc-le-zero p)
 each-turn f d zero (x ∷ xs) p = refl
 each-turn f d (suc i) (x ∷ xs) p = rw (each-turn f d i xs (le-of-suc-le-suc p))
 
 -- the ith element is not reached by the first i
-pub each-ahead : {A : Type 0} (f : A → A) (d : A) (i : ℕ) (xs : List A) → getD (each f i xs) i d ≡ getD xs i d
+each-ahead : {A : Type 0} (f : A → A) (d : A) (i : ℕ) (xs : List A) → getD (each f i xs) i d ≡ getD xs i d
 each-ahead f d zero xs = refl
 each-ahead f d (suc i) [] = refl
 each-ahead f d (suc i) (x ∷ xs) = each-ahead f d i xs
+
+-- a turn of a loop that does f to one after another
+pub each-step : {A : Type 0} (f : A → A) (d : A) (i : ℕ) (xs : List A) {ys : List A} → ys ≡ each f i xs → i < length xs
+    → set ys i (f (getD ys i d)) ≡ each f (i + 1) xs
+each-step f d i xs e p = rw (e, each-ahead f d i xs, add-one i) (each-turn f d i xs p)
 
 pub each-length : {A : Type 0} (f : A → A) (i : ℕ) (xs : List A) → length (each f i xs) ≡ length xs
 each-length f zero xs = refl
@@ -46,6 +51,13 @@ each-here f d i zero xs p q = absurd (not-suc-le-zero p)
 each-here f d i (suc n) [] p q = absurd (not-suc-le-zero q)
 each-here f d zero (suc n) (x ∷ xs) p q = refl
 each-here f d (suc i) (suc n) (x ∷ xs) p q = each-here f d i n xs (le-of-suc-le-suc p) (le-of-suc-le-suc q)
+
+-- those past them are as they were
+pub each-past : {A : Type 0} (f : A → A) (d : A) (i n : ℕ) (xs : List A) → n ≤ i → getD (each f n xs) i d ≡ getD xs i d
+each-past f d i zero xs p = refl
+each-past f d i (suc n) [] p = refl
+each-past f d zero (suc n) (x ∷ xs) p = absurd (not-suc-le-zero p)
+each-past f d (suc i) (suc n) (x ∷ xs) p = each-past f d i n xs (le-of-suc-le-suc p)
 
 rest : (a b c : Bool) → (b ≡ true → c ≡ true) → (a && b) ≡ true → (a && c) ≡ true
 rest true b c k e = k e
@@ -84,11 +96,11 @@ fit-turn d i [] p = absurd (not-suc-le-zero p)
 fit-turn d zero (h ∷ hs) p = and-true _
 fit-turn d (suc i) (h ∷ hs) p = rw (fit-turn d i hs (le-of-suc-le-suc p), and-assoc)
 
-pub replies-turn : (d : Head) (i : ℕ) (hs : List Head) (b at : ℕ) → i < length hs
-    → repliesOf (suc i) hs b at ≡ repliesOf i hs b at ++ saidBy (stepOf (getD hs i d) b at)
-replies-turn d i [] b at p = absurd (not-suc-le-zero p)
-replies-turn d zero (h ∷ hs) b at p = append-nil _
-replies-turn d (suc i) (h ∷ hs) b at p = rw (replies-turn d i hs b at (le-of-suc-le-suc p), append-assoc)
+replies-turn : (f : Head → Stepped) (d : Head) (i : ℕ) (hs : List Head) → i < length hs
+    → repliesBy f (suc i) hs ≡ repliesBy f i hs ++ saidBy (f (getD hs i d))
+replies-turn f d i [] p = absurd (not-suc-le-zero p)
+replies-turn f d zero (h ∷ hs) p = append-nil _
+replies-turn f d (suc i) (h ∷ hs) p = rw (replies-turn f d i hs (le-of-suc-le-suc p), append-assoc)
 
 -- no reply where no head gives one, and one where just head k does
 pub none-reply : (b at : ℕ) (d : Head) (n : ℕ) (hs : List Head) → ((j : ℕ) → j < n → stepOf (getD hs j d) b at .replied ≡ false) → repliesOf n hs b at ≡ []
@@ -122,39 +134,39 @@ tally-more : (rs : List (List ℕ)) (replied : Bool) (reply : List ℕ)
 tally-more rs true reply = rw (length-append, last-snoc)
 tally-more rs false reply = rw append-nil
 
--- a line k whose first i heads have heard what those of l hear, with their replies
-pub record Heard (b at : ℕ) (l : Line) (i : ℕ) (k : Line) (r : Replies) : Type 0 where
-  pub heads : k .heads ≡ each (steppedBy b at) i (l .heads)
+-- a line k whose first i heads have done f, as those of l do, with their replies
+pub record Heard (f : Head → Stepped) (l : Line) (i : ℕ) (k : Line) (r : Replies) : Type 0 where
+  pub heads : k .heads ≡ each (λ h. f h .head) i (l .heads)
   pub count : k .count ≡ l .count
-  pub replies : r ≡ tally (repliesOf i (l .heads) b at)
+  pub replies : r ≡ tally (repliesBy f i (l .heads))
 
 -- before the first turn, and a turn of the loop over the heads
-pub unheard : (b at : ℕ) (l : Line) {r : Replies} → r ≡ noReply → Heard b at l 0 l r
-unheard b at l e = record { heads = refl; count = refl; replies = e }
+pub unheard : (f : Head → Stepped) (l : Line) {r : Replies} → r ≡ noReply → Heard f l 0 l r
+unheard f l e = record { heads = refl; count = refl; replies = e }
 
-module _ (b at : ℕ) (l : Line) (i : ℕ) (k : Line) (r : Replies) (t : Heard b at l i k r) (p : i < length (l .heads)) (d : Head) where
-  pub heard-turn : (s : Stepped) → s ≡ stepOf (getD (k .heads) i d) b at → (n : Line) → n ≡ record { heads = set (k .heads) i (s .head); count = k .count }
-      → (q : Replies) → q ≡ counted r (s .replied) (s .reply) → Heard b at l (i + 1) n q
+module _ (f : Head → Stepped) (l : Line) (i : ℕ) (k : Line) (r : Replies) (t : Heard f l i k r) (p : i < length (l .heads)) (d : Head) where
+  pub heard-turn : (s : Stepped) → s ≡ f (getD (k .heads) i d) → (n : Line) → n ≡ record { heads = set (k .heads) i (s .head); count = k .count }
+      → (q : Replies) → q ≡ counted r (s .replied) (s .reply) → Heard f l (i + 1) n q
   heard-turn s e n en q eq =
-      let same : s ≡ stepOf (getD (l .heads) i d) b at = e ∙ rw (t .heads, each-ahead) in
-      let hs : set (k .heads) i (s .head) ≡ each (steppedBy b at) (i + 1) (l .heads) = rw (t .heads, same, add-one i, each-turn (steppedBy b at) d i (l .heads)) in
-      let rs : counted r (s .replied) (s .reply) ≡ tally (repliesOf (i + 1) (l .heads) b at) =
-      rw (t .replies, same, add-one i, replies-turn d i (l .heads) b at p)
-      (tally-more (repliesOf i (l .heads) b at) (stepOf (getD (l .heads) i d) b at .replied) (stepOf (getD (l .heads) i d) b at .reply)) in
+      let same : s ≡ f (getD (l .heads) i d) = e ∙ rw (t .heads, each-ahead) in
+      let hs : set (k .heads) i (s .head) ≡ each (λ h. f h .head) (i + 1) (l .heads) = rw (t .heads, same, add-one i, each-turn (λ h. f h .head) d i (l .heads)) in
+      let rs : counted r (s .replied) (s .reply) ≡ tally (repliesBy f (i + 1) (l .heads)) =
+      rw (t .replies, same, add-one i, replies-turn f d i (l .heads) p)
+      (tally-more (repliesBy f i (l .heads)) (f (getD (l .heads) i d) .replied) (f (getD (l .heads) i d) .reply)) in
       record { heads = ap (λ (m : Line). m .heads) en ∙ hs; count = ap (λ (m : Line). m .count) en ∙ t .count; replies = eq ∙ rs }
 
 -- no head replies twice
-few : (n : ℕ) (hs : List Head) (b at : ℕ) → length (repliesOf n hs b at) ≤ n
-few zero hs b at = omega arith
-few (suc n) [] b at = omega arith
-few (suc n) (h ∷ hs) b at = rw (length-append (saidBy (stepOf h b at))) (omega (arith, few n hs b at, said-one (stepOf h b at .replied)))
+few : (f : Head → Stepped) (n : ℕ) (hs : List Head) → length (repliesBy f n hs) ≤ n
+few f zero hs = omega arith
+few f (suc n) [] = omega arith
+few f (suc n) (h ∷ hs) = rw (length-append (saidBy (f h))) (omega (arith, few f n hs, said-one (f h .replied)))
   where
-    said-one : (x : Bool) → length (cond x (stepOf h b at .reply ∷ []) []) ≤ 1
+    said-one : (x : Bool) → length (cond x (f h .reply ∷ []) []) ≤ 1
     said-one true = omega arith
     said-one false = omega arith
 
-pub heard-few : {b at : ℕ} {l : Line} {i : ℕ} {k : Line} {r : Replies} → Heard b at l i k r → r .count ≤ i
-heard-few {b} {at} {l} {i} t = rw (t .replies) (few i (l .heads) b at)
+pub heard-few : {f : Head → Stepped} {l : Line} {i : ℕ} {k : Line} {r : Replies} → Heard f l i k r → r .count ≤ i
+heard-few {f} {l} {i} t = rw (t .replies) (few f i (l .heads))
 
 -- a line that fits has at most 32 heads, all well-formed, and their serial numbers differ
 pub fits-small : (l : Line) → fitsOf l ≡ true → l .count ≤ 32

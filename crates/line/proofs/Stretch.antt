@@ -15,6 +15,7 @@ use Rattle.head.specs.declared.refusal.Refusal.{Refusal}
 use Rattle.head.specs.declared.refusal.Refusal.the-variants.{Space, Malformed}
 use Rattle.head.specs.declared.calls.Heard as said
 use Rattle.head.specs.declared.calls.Heard.the-variants as heard
+use Rattle.head.specs.Hear.{stepOf}
 use Rattle.line.specs.declared.round.Replies.{Replies}
 use Rattle.line.specs.declared.calls.Line.{Line}
 use Rattle.line.specs.declared.calls.Fed.{Fed}
@@ -52,7 +53,7 @@ tally-none : (rs : List (List ℕ)) → length rs ≡ 0 → tally rs ≡ noReply
 tally-none [] z = refl
 tally-none (r ∷ rs) z = absurd (omega arith)
 
-module _ {b at : ℕ} {k n : Line} {q : Replies} (t : Heard b at k (k .count) n q) where
+module _ (b at : ℕ) {k n : Line} {q : Replies} (t : Heard (λ h. stepOf h b at) k (k .count) n q) where
   heard-line : n ≡ heardBy k b at
   heard-line = same-line (t .heads) (t .count)
 
@@ -70,9 +71,9 @@ module _ {b at : ℕ} {k n : Line} {q : Replies} (t : Heard b at k (k .count) n 
 
 -- the byte at a place of all bytes
 pub going-next : {at : ℕ} {l : Line} {bs : List ℕ} {from : ℕ} {k : Line} (bytes : List ℕ) {j : ℕ} {r : Replies} {n : Line} {q : Replies}
-    → Going at l bs from k (drop j bytes) j r → j < length bytes → r .count ≡ 0 → Heard (getD bytes j 0) at k (k .count) n q
+    → Going at l bs from k (drop j bytes) j r → j < length bytes → r .count ≡ 0 → Heard (λ h. stepOf h (getD bytes j 0) at) k (k .count) n q
     → Going at l bs from n (drop (j + 1) bytes) (j + 1) q
-going-next bytes {j} g p z t = going-on t (rw (drop-cons bytes j 0 p, ← add-one j) at g) z
+going-next {at} bytes {j} g p z t = going-on (getD bytes j 0) at t (rw (drop-cons bytes j 0 p, ← add-one j) at g) z
 
 -- after the last: no byte is left, or a reply came
 module _ {at : ℕ} {l : Line} {bs : List ℕ} {from : ℕ} {k : Line} {left : List ℕ} {j : ℕ} {r : Replies} (g : Going at l bs from k left j r) where

@@ -39,7 +39,7 @@ use Rattle.line.specs.Round.{each, allFit, steppedBy, tickedAt}
 use Rattle.line.specs.Serials.{serialsOf}
 use Rattle.line.specs.Calls.{emptyOf, serialsAt, fitsOf, doneWith, refusedWith, headAt, placedOf, grownBy, growTests, growOf}
 use Rattle.line.specs.Calls.{repliesAt, heardBy, byteOf, laidBy, byteSpaceOf, tickOf, putBack, namedTests, namedOf, unfed, putBackFed, keysOf, keysSpaceOf}
-use Rattle.line.proofs.Laws.{each-here, each-length, fit-each, fit-set, fit-grown, fits-small, fits-heads, fits-serials, fits-few, fit-at, set-back}
+use Rattle.line.proofs.Laws.{each-here, each-past, each-length, fit-each, fit-set, fit-grown, fits-small, fits-heads, fits-serials, fits-few, fit-at, set-back}
 use Rattle.line.proofs.Apart.{differ-last, serials-set, serials-each, serials-grown}
 
 -- ---- which refusal, exactly when: the tests of each call in their order
@@ -197,6 +197,13 @@ module _ (l : Line) (f : fitsOf l ≡ true) (e : length (l .heads) ≡ 32) where
     unfolding byteOf
     byte-alone b at room r = rw (f, le-ltb _ _ r) (each-here (steppedBy b at) (factoryOf 0) i (l .count) (l .heads) p (here i p))
 
+-- what stands past the count is as it was
+pub byte-past : (l : Line) (b at room k : ℕ) → l .count ≤ k → headAt (byteOf l b at room .line) k ≡ headAt l k
+byte-past l b at room k p =
+    rw (byte-when l b at room)
+    (either (λ (c : Fed). headAt (c .line) k ≡ headAt l k) (unfed l) _ (byteTests l room) (λ why. refl)
+    (λ _. each-past (steppedBy b at) (factoryOf 0) k (l .count) (l .heads) p))
+
 -- the answer counts the replies that the heads give, and the space takes the one that is alone
 module _ (l : Line) (f : fitsOf l ≡ true) (b at : ℕ) (space : List ℕ) (r : 10 ≤ length space) where
   pub byte-counts : byteOf l b at (length space) .heard ≡ heard.Replies (length (repliesAt l b at))
@@ -207,8 +214,9 @@ module _ (l : Line) (f : fitsOf l ≡ true) (b at : ℕ) (space : List ℕ) (r :
   unfolding byteSpaceOf
   byte-lays = rw (f, le-ltb _ _ r)
 
--- ---- through every call a line that fits stays one, with its 32 places, and keeps the serial numbers of its heads; a new head's stands after them
+-- ---- through every call but one that makes a head, a line that fits stays one, with its heads, its 32 places and the serial numbers of its heads
 pub record Kept (l k : Line) : Type 0 where
+  pub count : k .count ≡ l .count
   pub fits : fitsOf l ≡ true → fitsOf k ≡ true
   pub places : length (k .heads) ≡ length (l .heads)
   pub serials : serialsAt k ≡ serialsAt l
@@ -223,8 +231,8 @@ refit : (l : Line) (hs : List Head) → (allFit (l .count) (l .heads) ≡ true �
 refit l hs k e f =
     fits-few (record { heads = hs; count = l .count }) (fits-small l f) ∙ rw (e, fits-serials l f, k (fits-heads l f))
 
-unmoved : (l : Line) → Kept l l
-unmoved l = record { fits = λ f. f; places = refl; serials = refl }
+pub unmoved : (l : Line) → Kept l l
+unmoved l = record { count = refl; fits = λ f. f; places = refl; serials = refl }
 
 module _ (l : Line) where
   placed-kept : (i : ℕ) (h : Head) → ltb i (l .count) ≡ true → (wellformedOf (headAt l i) ≡ true → wellformedOf h ≡ true)
@@ -233,16 +241,18 @@ module _ (l : Line) where
   placed-kept i h p k e =
       let s = serials-set (factoryOf 0) h i (l .count) (l .heads) e in
       record {
+        count = refl;
         fits = refit l (set (l .heads) i h) (fit-set (factoryOf 0) h i (l .count) (l .heads) (ltb-true _ _ p) k) s;
         places = length-set (l .heads) i h;
         serials = s;
       }
 
-  each-kept : (g : Head → Head) → ((h : Head) → wellformedOf h ≡ true → wellformedOf (g h) ≡ true)
+  -- what keeps each head well-formed, and its serial number, keeps the line so
+  pub each-kept : (g : Head → Head) → ((h : Head) → wellformedOf h ≡ true → wellformedOf (g h) ≡ true)
       → ((h : Head) → g h .stored .serial ≡ h .stored .serial) → Kept l (record { heads = each g (l .count) (l .heads); count = l .count })
   each-kept g k e =
       let s = serials-each g e (l .count) (l .count) (l .heads) in
-      record { fits = refit l _ (fit-each g k (l .count) (l .heads)) s; places = each-length g (l .count) (l .heads); serials = s }
+      record { count = refl; fits = refit l _ (fit-each g k (l .count) (l .heads)) s; places = each-length g (l .count) (l .heads); serials = s }
 
   pub byte-keeps : (b at room : ℕ) → Kept l (byteOf l b at room .line)
   byte-keeps b at room =

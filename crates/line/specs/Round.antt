@@ -37,11 +37,14 @@ tickedAt at h = tickedOf h at
 abbrev pub saidBy : Stepped → List (List ℕ)
 saidBy s = cond (s .replied) (s .reply ∷ []) []
 
--- the replies of the first n heads, in the heads' order
+-- the replies of the first n heads, in the heads' order, where f is what each does; and those to a byte
+abbrev pub repliesBy : (Head → Stepped) → ℕ → List Head → List (List ℕ)
+repliesBy f zero hs = []
+repliesBy f (suc n) [] = []
+repliesBy f (suc n) (h ∷ hs) = saidBy (f h) ++ repliesBy f n hs
+
 abbrev pub repliesOf : ℕ → List Head → ℕ → ℕ → List (List ℕ)
-repliesOf zero hs b at = []
-repliesOf (suc n) [] b at = []
-repliesOf (suc n) (h ∷ hs) b at = saidBy (stepOf h b at) ++ repliesOf n hs b at
+repliesOf n hs b at = repliesBy (λ h. stepOf h b at) n hs
 
 -- the replies counted one head at a time, with the last of them
 abbrev pub noReply : Replies

@@ -1,4 +1,5 @@
--- What a `Send` and a `Load` promise of their lines: the third word is the hex digits, and `byte_at` reads from it the bytes that it stands for.
+-- What a `Send`, a `Load` and a `Rack` promise of their lines: the last word is the hex digits, and `byte_at` reads from it the bytes that it stands
+-- for; of the latter two it may be left out.
 -- Assumes nothing.
 use Prim.Native.Nat.{ℕ, zero, suc, _+_, _-_, _*_, _<_, _≤_, suc-le-suc}
 use native.Mathlib.Omega.{arith}
@@ -6,7 +7,7 @@ use native.Mathlib.Nat.{not-suc-le-zero, le-of-suc-le-suc}
 use mathlib.Core.Path.{_≡_, refl, sym, ap, _∙_}
 use mathlib.Core.Logic.{_⊎_, inl, inr, ⊎-elim}
 use mathlib.Core.Bool.{Bool, true, false, _&&_, cond, and-eq-true-iff}
-use mathlib.Core.List.{List, [], _∷_}
+use mathlib.Core.List.{List, [], _∷_, _++_}
 use lib.Dec.{eqb}
 use lib.ListN.{length, getD, take, drop, length-drop, length-take}
 use lib.Seq.{getD-take, getD-drop}
@@ -19,10 +20,10 @@ use Rattle.script.specs.Places.{wordsAt, startOf, afterOf}
 use Rattle.text.specs.Numbers.{hexOf, isHex, inPairs, bytesOf, pairOf, countOf}
 use Rattle.script.specs.Meaning.{meaningOf, byteAtOf, read}
 use Rattle.script.proofs.Split.{less-or-not, wordAt, some-left, none-left, fronts, front-short}
-use Rattle.script.proofs.Told.{Carrying, Without, sending, loading, not-too-long}
+use Rattle.script.proofs.Told.{Says, Carrying, Without, sending, loading, racking, not-too-long}
 
-pub record Carried (n : Name) (line : List ℕ) (said from count : ℕ) : Type 0 where
-  -- the line is three words: the name, the number, and hex digits that start at the place `from`
+pub record Carried (n : Name) (line said : List ℕ) (from count : ℕ) : Type 0 where
+  -- the line's words are the name, the numbers, and hex digits that start at the place `from`
   pub are : Carrying n (wordsOf (bareOf line)) said from count
   -- at least one byte, and two hex digits in the line for each
   pub some : 0 < count
@@ -31,7 +32,7 @@ pub record Carried (n : Name) (line : List ℕ) (said from count : ℕ) : Type 0
   -- `byte_at` gives their value, and one after the other the bytes of the word
   pub value : (i : ℕ) → i < count
       → byteAtOf line from i ≡ 16 * hexOf (getD line (from + 2 * i) 0) + hexOf (getD line (from + 2 * i + 1) 0)
-  pub bytes : read (byteAtOf line from) count ≡ bytesOf (are .third .chars)
+  pub bytes : read (byteAtOf line from) count ≡ bytesOf (are .digits .chars)
   -- the last of them stands in the line as well
   pub within : from + 2 * count ≤ length (bareOf line)
 
@@ -85,13 +86,16 @@ peel l from e =
     (λ (h : length l ≤ startOf l from). let q = none-left l from h in let z : _≡_ {A = ℕ} 0 1 = cc in absurd (omega arith))
     (less-or-not (startOf l from) (length l))
 
-third-word : (l : List ℕ) {a b c : Word} → wordsOf l ≡ a ∷ b ∷ c ∷ [] → c .chars ≡ front (drop (c .start) l)
+-- the last of them
+last-word : (l : List ℕ) (from : ℕ) (ws : List Word) (w : Word) → wordsAt l from ≡ ws ++ (w ∷ []) → w .chars ≡ front (drop (w .start) l)
+last-word l from [] w e =
+    let r = peel l from e .0 in
+    ap (λ (v : Word). v .chars) r ∙ ap (λ (n : ℕ). front (drop n l)) (sym (ap (λ (v : Word). v .start) r))
+last-word l from (a ∷ ws) w e = last-word l (afterOf l from) ws w (sym (peel l from e .1))
+
+all-words : (l : List ℕ) → wordsOf l ≡ wordsAt l 0
 unfolding wordsOf wordsAt
-third-word l e =
-    let p = peel l 0 e .1 in
-    let q = peel l (afterOf l 0) (sym p) .1 in
-    let r = peel l (afterOf l (afterOf l 0)) (sym q) .0 in
-    ap (λ (w : Word). w .chars) r ∙ ap (λ (n : ℕ). front (drop n l)) (sym (ap (λ (w : Word). w .start) r))
+all-words l = refl
 
 -- a word's characters stand in the line, from its start on
 stands : (line : List ℕ) (w : Word) {from : ℕ} → w .start ≡ from → w .chars ≡ front (drop (w .start) (bareOf line))
@@ -137,19 +141,20 @@ module _ (line : List ℕ) (from : ℕ) (cs : List ℕ) (at : (j : ℕ) → j < 
   byte-read : byteAtOf line from i ≡ getD (bytesOf cs) i 0
   byte-read = byte-value ∙ sym (rw (at-high, at-low) at (here .value))
 
--- a line of three words, the last of which is bytes
-carried : {n : Name} (line : List ℕ) {said from count : ℕ} → Carrying n (wordsOf (bareOf line)) said from count → Carried n line said from count
+-- a line of a name and numbers, whose last word is bytes
+carried : {n : Name} (line : List ℕ) {said : List ℕ} {from count : ℕ} → Carrying n (wordsOf (bareOf line)) said from count
+    → Carried n line said from count
 carried line {from = from} {count = count} s =
-    let cs = s .third .chars in
-    let place = third-word (bareOf line) (s .words) in
-    let at : (j : ℕ) → j < length cs → getD cs j 0 ≡ getD line (from + j) 0 = stands line (s .third) (s .starts) place in
+    let cs = s .digits .chars in
+    let place = last-word (bareOf line) 0 (s .first ∷ s .numbers) (s .digits) (sym (all-words (bareOf line)) ∙ s .words) in
+    let at : (j : ℕ) → j < length cs → getD cs j 0 ≡ getD line (from + j) 0 = stands line (s .digits) (s .starts) place in
     let p = paired cs (λ z. s .some (sym (s .counts) ∙ z)) in
     let n : count ≡ length (bytesOf cs) = sym (s .counts) ∙ p .1 in
     let below : (i : ℕ) → i < count → i < length (bytesOf cs) = λ i h. omega arith in
     let some : 0 < count = omega (arith, s .some) in
     let inside = byte cs (p .0) (count - 1) (omega arith) .inside in
-    let fits = rw (← place) at (front-short (drop (s .third .start) (bareOf line))) in
-    let left = length-drop (s .third .start) (bareOf line) in
+    let fits = rw (← place) at (front-short (drop (s .digits .start) (bareOf line))) in
+    let left = length-drop (s .digits .start) (bareOf line) in
     let starts = s .starts in
     record {
       are = s;
@@ -161,35 +166,69 @@ carried line {from = from} {count = count} s =
       within = omega arith;
     }
 
--- a line that means a `Send`
-pub sent : (line : List ℕ) {time from count : ℕ} → meaningOf line ≡ command.Send time from count → Carried name.Send line time from count
+-- a line that carries bytes in this way, or has none
+abbrev pub Perhaps : Name → List ℕ → List ℕ → ℕ → ℕ → Type 0
+Perhaps n line said from count = Carried n line said from count ⊎ Without n (wordsOf (bareOf line)) said count
+
+-- a line that means a `Send`, a `Load` and a `Rack`
+pub sent : (line : List ℕ) {time from count : ℕ} → meaningOf line ≡ command.Send time from count
+    → Carried name.Send line (time ∷ []) from count
 sent line e = carried line (sending line e)
 
--- a line that means a `Load`: it carries bytes in the same way, or is two words and has none
-pub loaded : (line : List ℕ) {at from count : ℕ} → meaningOf line ≡ command.Load at from count
-    → Carried name.Load line at from count ⊎ Without name.Load (wordsOf (bareOf line)) at count
+pub loaded : (line : List ℕ) {at from count : ℕ} → meaningOf line ≡ command.Load at from count → Perhaps name.Load line (at ∷ []) from count
 loaded line e = ⊎-elim (λ s. inl (carried line s)) (λ s. inr s) (loading line e)
 
--- the characters of the third word; none where there are fewer words
-abbrev pub thirdOf : List Word → List ℕ
-thirdOf [] = []
-thirdOf (a ∷ []) = []
-thirdOf (a ∷ b ∷ []) = []
-thirdOf (a ∷ b ∷ c ∷ ws) = c .chars
+pub racked : (line : List ℕ) {time place from count : ℕ} → meaningOf line ≡ command.Rack time place from count
+    → Perhaps name.Rack line (time ∷ place ∷ []) from count
+racked line e = ⊎-elim (λ s. inl (carried line s)) (λ s. inr s) (racking line e)
 
--- what is read from it, one byte after the other, are the bytes of its third word; without that word it is none
+-- the characters of word `i`, the first being word 0; none where there are fewer words
+abbrev pub charsAt : ℕ → List Word → List ℕ
+charsAt i [] = []
+charsAt zero (w ∷ ws) = w .chars
+charsAt (suc i) (w ∷ ws) = charsAt i ws
+
+-- the word past those that say numbers, and that there is none
+past : (ws : List Word) (ks : List ℕ) (d : Word) → Says ws ks → charsAt (length ks) (ws ++ (d ∷ [])) ≡ d .chars
+past [] [] d s = refl
+past [] (k ∷ ks) d s = absurd s
+past (w ∷ ws) [] d s = absurd s
+past (w ∷ ws) (k ∷ ks) d s = past ws ks d (s .1)
+
+past-all : (ws : List Word) (ks : List ℕ) → Says ws ks → charsAt (length ks) ws ≡ []
+past-all [] ks s = refl
+past-all (w ∷ ws) [] s = absurd s
+past-all (w ∷ ws) (k ∷ ks) s = past-all ws ks (s .1)
+
+-- what is read, one byte after the other, are the bytes of the word past the numbers; without that word it is none
+bytes-are : {n : Name} (line : List ℕ) {said : List ℕ} {from count : ℕ} → Perhaps n line said from count
+    → read (byteAtOf line from) count ≡ bytesOf (charsAt (suc (length said)) (wordsOf (bareOf line)))
+bytes-are line {said} p =
+    ⊎-elim
+    (λ s. rw (s .are .words, past (s .are .numbers) said (s .are .digits) (s .are .numbered)) (s .bytes))
+    (λ s. rw (s .words, past-all (s .numbers) said (s .numbered), s .none))
+    p
+
 pub load-bytes : (line : List ℕ) {at from count : ℕ} → meaningOf line ≡ command.Load at from count
-    → read (byteAtOf line from) count ≡ bytesOf (thirdOf (wordsOf (bareOf line)))
-load-bytes line e = ⊎-elim (λ s. rw (s .are .words) (s .bytes)) (λ s. rw (s .words, s .none)) (loaded line e)
+    → read (byteAtOf line from) count ≡ bytesOf (charsAt 2 (wordsOf (bareOf line)))
+load-bytes line e = bytes-are line (loaded line e)
 
--- a line has at most 4,096 characters, so that the bytes of a `Send`, and those of a `Load`, are at most 2,048
+pub rack-bytes : (line : List ℕ) {time place from count : ℕ} → meaningOf line ≡ command.Rack time place from count
+    → read (byteAtOf line from) count ≡ bytesOf (charsAt 3 (wordsOf (bareOf line)))
+rack-bytes line e = bytes-are line (racked line e)
+
+-- a line has at most 4,096 characters, so that the bytes of a `Send`, of a `Load` and of a `Rack` are at most 2,048
+most-bytes : {n : Name} (line : List ℕ) {said : List ℕ} {from count : ℕ} → (meaningOf line ≡ command.Malformed → ⊥)
+    → Perhaps n line said from count → count ≤ 2048
+most-bytes line m p =
+    let short = not-too-long line m in
+    ⊎-elim (λ s. let w = s .within in omega arith) (λ s. let n = s .none in omega arith) p
+
 pub send-within : (line : List ℕ) {time from count : ℕ} → meaningOf line ≡ command.Send time from count → count ≤ 2048
-send-within line e =
-    let short = not-too-long line (λ m. let z : _≡_ {A = ℕ} 0 1 = cc in omega arith) in
-    let w = sent line e .within in
-    omega arith
+send-within line e = most-bytes line (λ m. let z : _≡_ {A = ℕ} 0 1 = cc in omega arith) (inl (sent line e))
 
 pub load-within : (line : List ℕ) {at from count : ℕ} → meaningOf line ≡ command.Load at from count → count ≤ 2048
-load-within line e =
-    let short = not-too-long line (λ m. let z : _≡_ {A = ℕ} 0 1 = cc in omega arith) in
-    ⊎-elim (λ s. let w = s .within in omega arith) (λ s. let n = s .none in omega arith) (loaded line e)
+load-within line e = most-bytes line (λ m. let z : _≡_ {A = ℕ} 0 1 = cc in omega arith) (loaded line e)
+
+pub rack-within : (line : List ℕ) {time place from count : ℕ} → meaningOf line ≡ command.Rack time place from count → count ≤ 2048
+rack-within line e = most-bytes line (λ m. let z : _≡_ {A = ℕ} 0 1 = cc in omega arith) (racked line e)

@@ -6,7 +6,7 @@ use mathlib.Core.Bool.{true}
 use mathlib.Core.List.{List, [], _∷_}
 use lib.IntN.{pos, negsuc}
 use Rattle.script.specs.declared.Command.{Command}
-use Rattle.script.specs.declared.Command.the-variants.{Blank, Malformed, Grow, Send, Tick, Measure, Keys, Power, Space, Xor, Ask, Save, Load}
+use Rattle.script.specs.declared.Command.the-variants.{Blank, Malformed, Grow, Send, Tick, Measure, Keys, Power, Space, Xor, Ask, Save, Load, Rack}
 use Rattle.script.specs.declared.arguments.Last.the-variants.{Nothing}
 use Rattle.text.specs.Text.{text}
 use Rattle.text.specs.Lines.{bareOf}
@@ -96,6 +96,22 @@ cases =
     ∷ "load 0 0G" says Malformed
     ∷ "load 0 00 00" says Malformed
     ∷ "load" says Malformed
+    ∷ "rack 0 0 001F200000000000003F" says Rack 0 0 9 10
+    ∷ "rack 7 4294967295 aF" says Rack 7 4294967295 18 1
+    ∷ "rack 4294967295 0" says Rack 4294967295 0 0 0
+    ∷ "\track  5\t10  53Aa4E \r" says Rack 5 10 13 3
+    ∷ "rack 5 10 \r" says Rack 5 10 0 0
+    ∷ "rack 0 0 00F" says Malformed
+    ∷ "rack 0 0 0G" says Malformed
+    ∷ "rack 0 aF" says Malformed
+    ∷ "rack 0" says Malformed
+    ∷ "rack" says Malformed
+    ∷ "rack 4294967296 0" says Malformed
+    ∷ "rack 0 4294967296" says Malformed
+    ∷ "rack 0 4294967296 00" says Malformed
+    ∷ "rack 0 -1" says Malformed
+    ∷ "rack 0 0 00 00" says Malformed
+    ∷ "Rack 0 0" says Malformed
     ∷ "  # note" says Blank
     ∷ "\r" says Blank
     ∷ "" says Blank
@@ -103,7 +119,7 @@ cases =
 
 hold : Hold cases
 unfolding wordsOf bareOf sameOf numberOf signedOf hexOf countOf lastOf argumentsOf nameOf orderOf commandOf spokenOf meaningOf
-hold = (refl, (refl, (refl, (refl, (refl, (refl, (refl, (refl, (refl, (refl, (refl, (refl, (refl, (refl, (refl, (refl, (refl, (refl, (refl, (refl, (refl, (refl, (refl, (refl, (refl, (refl, (refl, (refl, (refl, (refl, (refl, (refl, (refl, (refl, (refl, (refl, (refl, (refl, (refl, (refl, (refl, (refl, (refl, (refl, (refl, (refl, (refl, (refl, (refl, (refl, (refl, (refl, (refl, (refl, (refl, (refl, (refl, (refl, (refl, (refl, (refl, (refl, (refl, (refl, (refl, (refl, (refl, (refl, (refl, (refl, tt))))))))))))))))))))))))))))))))))))))))))))))))))))))))))))))))))))))
+hold = (refl, (refl, (refl, (refl, (refl, (refl, (refl, (refl, (refl, (refl, (refl, (refl, (refl, (refl, (refl, (refl, (refl, (refl, (refl, (refl, (refl, (refl, (refl, (refl, (refl, (refl, (refl, (refl, (refl, (refl, (refl, (refl, (refl, (refl, (refl, (refl, (refl, (refl, (refl, (refl, (refl, (refl, (refl, (refl, (refl, (refl, (refl, (refl, (refl, (refl, (refl, (refl, (refl, (refl, (refl, (refl, (refl, (refl, (refl, (refl, (refl, (refl, (refl, (refl, (refl, (refl, (refl, (refl, (refl, (refl, (refl, (refl, (refl, (refl, (refl, (refl, (refl, (refl, (refl, (refl, (refl, (refl, (refl, (refl, (refl, (refl, tt))))))))))))))))))))))))))))))))))))))))))))))))))))))))))))))))))))))))))))))))))))))
 
 -- as many numbers as there may be, each in its place and up to its own limit
 six : argumentsOf (takesOf (1 ∷ 2 ∷ 3 ∷ 4 ∷ 5 ∷ 6 ∷ []) Nothing) (wordsOf (text "1 2 3 4 5 6")) ≡ givenOf true (1 ∷ 2 ∷ 3 ∷ 4 ∷ 5 ∷ 6 ∷ []) (pos 0) 0 0

@@ -1,12 +1,12 @@
--- What a `Send`, a `Load`, a `Space` and an `Ask` tell of the words that they came from, and that a line too long is none: a property that holds
--- of every way to a command is followed down the definition.
+-- What a `Send`, a `Load`, a `Rack`, a `Space` and an `Ask` tell of the words that they came from, and that a line too long is none: a property that
+-- holds of every way to a command is followed down the definition.
 -- Assumes nothing.
 use Prim.Native.Nat.{ℕ, suc, _<_, _≤_}
 use native.Mathlib.Omega.{arith}
 use mathlib.Core.Path.{_≡_, refl, subst}
 use mathlib.Core.Logic.{_⊎_, inl, inr}
 use mathlib.Core.Bool.{Bool, true, false, cond}
-use mathlib.Core.List.{List, [], _∷_}
+use mathlib.Core.List.{List, [], _∷_, _++_}
 use borrow.Author.Tests.{eqb-false, ltb-false, lt-ltb}
 use lib.Dec.{ltb, eqb}
 use lib.IntN.{pos}
@@ -28,24 +28,31 @@ use Rattle.script.specs.Meaning.{whole, byte, half, largestSpace, longes
 use Rattle.text.proofs.Spelled.{number-within}
 use Rattle.text.proofs.Bare.{bare-long}
 
--- the words of a command of the name `n` that takes a number and bytes, and of one whose bytes are left out
-pub record Carrying (n : Name) (ws : List Word) (said from count : ℕ) : Type 0 where
+-- words that say numbers of 32 bits, one each
+abbrev pub Says : List Word → List ℕ → Type 0
+Says [] [] = Unit {0}
+Says [] (k ∷ ks) = ⊥
+Says (w ∷ ws) [] = ⊥
+Says (w ∷ ws) (k ∷ ks) = (numberOf whole (w .chars) ≡ number.Is k) × Says ws ks
+
+-- the words of a command of the name `n` that takes the numbers `said` and bytes, and of one whose bytes are left out
+pub record Carrying (n : Name) (ws : List Word) (said : List ℕ) (from count : ℕ) : Type 0 where
   pub first : Word
-  pub second : Word
-  pub third : Word
-  pub words : ws ≡ first ∷ second ∷ third ∷ []
+  pub numbers : List Word
+  pub digits : Word
+  pub words : ws ≡ first ∷ (numbers ++ (digits ∷ []))
   pub called : nameOf (first .chars) ≡ n
-  pub numbered : numberOf whole (second .chars) ≡ number.Is said
-  pub starts : third .start ≡ from
-  pub counts : countOf (third .chars) ≡ count
+  pub numbered : Says numbers said
+  pub starts : digits .start ≡ from
+  pub counts : countOf (digits .chars) ≡ count
   pub some : count ≡ 0 → ⊥
 
-pub record Without (n : Name) (ws : List Word) (said count : ℕ) : Type 0 where
+pub record Without (n : Name) (ws : List Word) (said : List ℕ) (count : ℕ) : Type 0 where
   pub first : Word
-  pub second : Word
-  pub words : ws ≡ first ∷ second ∷ []
+  pub numbers : List Word
+  pub words : ws ≡ first ∷ numbers
   pub called : nameOf (first .chars) ≡ n
-  pub numbered : numberOf whole (second .chars) ≡ number.Is said
+  pub numbered : Says numbers said
   pub none : count ≡ 0
 
 -- numbers that the fields of a telegram can hold
@@ -60,7 +67,7 @@ abbrev Told : List Word → Command → Type 0
 Told ws command.Blank = Unit {0}
 Told ws command.Malformed = Unit {0}
 Told ws (command.Grow n s) = Unit {0}
-Told ws (command.Send t from n) = Carrying name.Send ws t from n
+Told ws (command.Send t from n) = Carrying name.Send ws (t ∷ []) from n
 Told ws (command.Tick t) = Unit {0}
 Told ws (command.Measure h v) = Unit {0}
 Told ws (command.Keys h s) = Unit {0}
@@ -69,7 +76,8 @@ Told ws (command.Space n) = n ≤ largestSpace
 Told ws (command.Xor h) = Unit {0}
 Told ws (command.Ask t c n p w d) = Asking c n p w
 Told ws (command.Save h) = Unit {0}
-Told ws (command.Load h from n) = Carrying name.Load ws h from n ⊎ Without name.Load ws h n
+Told ws (command.Load h from n) = Carrying name.Load ws (h ∷ []) from n ⊎ Without name.Load ws (h ∷ []) n
+Told ws (command.Rack t p from n) = Carrying name.Rack ws (t ∷ p ∷ []) from n ⊎ Without name.Rack ws (t ∷ p ∷ []) n
 
 of-test : (from : List Word) (b : Bool) (c d : Command) → Told from c → Told from d → Told from (cond b c d)
 of-test from true c d p q = p
@@ -111,36 +119,58 @@ of-bytes from n numbers (b ∷ []) h = go (eqb (countOf (b .chars)) 0) refl
     go false e = h b refl (eqb-false (countOf (b .chars)) 0 e)
 of-bytes from n numbers (b ∷ c ∷ ws) h = tt
 
--- the words of a command that takes a number and bytes, put together
-carries : {w a b : Word} {ws vs : List Word} {n : Name} {k : ℕ} → nameOf (w .chars) ≡ n → ws ≡ a ∷ vs → numberOf whole (a .chars) ≡ number.Is k
-    → vs ≡ b ∷ [] → (countOf (b .chars) ≡ 0 → ⊥) → Carrying n (w ∷ ws) k (b .start) (countOf (b .chars))
-carries {w} {a} {b} e is k sole z =
+-- bytes that may be left out: no word is left, or just one
+of-perhaps : (from : List Word) (n : Name) (numbers : List ℕ) (ws : List Word)
+    → (ws ≡ [] → Told from (rowOf n .made (givenOf true numbers (pos 0) 0 0)))
+    → ((b : Word) → ws ≡ b ∷ [] → (countOf (b .chars) ≡ 0 → ⊥)
+    → Told from (rowOf n .made (givenOf true numbers (pos 0) (b .start) (countOf (b .chars)))))
+    → Told from (order n (lastOf last.PerhapsBytes numbers ws))
+unfolding lastOf
+of-perhaps from n numbers [] out h = out refl
+of-perhaps from n numbers (b ∷ ws) out h = of-bytes from n numbers (b ∷ ws) h
+
+-- the words of a command that takes numbers and bytes, put together, and of one whose bytes are left out
+carries : {w : Word} {ws : List Word} {n : Name} {said : List ℕ} (numbers : List Word) (b : Word) → nameOf (w .chars) ≡ n → Says numbers said
+    → ws ≡ numbers ++ (b ∷ []) → (countOf (b .chars) ≡ 0 → ⊥) → Carrying n (w ∷ ws) said (b .start) (countOf (b .chars))
+carries {w} numbers b e says is z =
     record {
       first = w;
-      second = a;
-      third = b;
-      words = rw (is, sole);
+      numbers = numbers;
+      digits = b;
+      words = rw is;
       called = e;
-      numbered = k;
+      numbered = says;
       starts = refl;
       counts = refl;
       some = z;
     }
 
+lacks : {w : Word} {ws : List Word} {n : Name} {said : List ℕ} (numbers : List Word) → nameOf (w .chars) ≡ n → Says numbers said → ws ≡ numbers
+    → Without n (w ∷ ws) said 0
+lacks {w} numbers e says is = record { first = w; numbers = numbers; words = rw is; called = e; numbered = says; none = refl }
+
 told-send : (w : Word) (ws : List Word) → nameOf (w .chars) ≡ name.Send → Told (w ∷ ws) (orderOf name.Send ws)
 unfolding orderOf argumentsOf
 told-send w ws e =
     of-next (w ∷ ws) name.Send last.Bytes 0 whole noNumbers [] ws (λ a t vs is k.
-    of-bytes (w ∷ ws) name.Send (set noNumbers 0 t) vs (λ b sole z. carries e is k sole z))
+    of-bytes (w ∷ ws) name.Send (set noNumbers 0 t) vs (λ b sole z. carries (a ∷ []) b e (k, tt) (rw (is, sole)) z))
 
 told-load : (w : Word) (ws : List Word) → nameOf (w .chars) ≡ name.Load → Told (w ∷ ws) (orderOf name.Load ws)
-unfolding orderOf argumentsOf lastOf
-told-load w ws e = of-next (w ∷ ws) name.Load last.PerhapsBytes 0 whole noNumbers [] ws after
-  where
-    after : (a : Word) (h : ℕ) (vs : List Word) → ws ≡ a ∷ vs → numberOf whole (a .chars) ≡ number.Is h
-        → Told (w ∷ ws) (order name.Load (lastOf last.PerhapsBytes (set noNumbers 0 h) vs))
-    after a h [] is k = inr (record { first = w; second = a; words = rw is; called = e; numbered = k; none = refl })
-    after a h (b ∷ vs) is k = of-bytes (w ∷ ws) name.Load (set noNumbers 0 h) (b ∷ vs) (λ c sole z. inl (carries e is k sole z))
+unfolding orderOf argumentsOf
+told-load w ws e =
+    of-next (w ∷ ws) name.Load last.PerhapsBytes 0 whole noNumbers [] ws (λ a h vs is k.
+    of-perhaps (w ∷ ws) name.Load (set noNumbers 0 h) vs
+    (λ none. inr (lacks (a ∷ []) e (k, tt) (rw (is, none))))
+    (λ b sole z. inl (carries (a ∷ []) b e (k, tt) (rw (is, sole)) z)))
+
+told-rack : (w : Word) (ws : List Word) → nameOf (w .chars) ≡ name.Rack → Told (w ∷ ws) (orderOf name.Rack ws)
+unfolding orderOf argumentsOf
+told-rack w ws e =
+    of-next (w ∷ ws) name.Rack last.PerhapsBytes 0 whole noNumbers (whole ∷ []) ws (λ a t vs is k.
+    of-next (w ∷ ws) name.Rack last.PerhapsBytes 1 whole (set noNumbers 0 t) [] vs (λ b p us next m.
+    of-perhaps (w ∷ ws) name.Rack (set (set noNumbers 0 t) 1 p) us
+    (λ none. inr (lacks (a ∷ b ∷ []) e (k, (m, tt)) (rw (is, next, none))))
+    (λ c sole z. inl (carries (a ∷ b ∷ []) c e (k, (m, tt)) (rw (is, next, sole)) z))))
 
 -- a property of any numbers, each up to its limit and in its place: number `i` and those that follow
 abbrev Any : (List ℕ → Type 0) → ℕ → List ℕ → List ℕ → Type 0
@@ -182,6 +212,7 @@ told-order w ws name.Xor e = of-fit (w ∷ ws) (argumentsOf (rowOf name.Xor .tak
 told-order w ws name.Ask e = told-ask w ws
 told-order w ws name.Save e = of-fit (w ∷ ws) (argumentsOf (rowOf name.Save .takes) ws) _ tt
 told-order w ws name.Load e = told-load w ws e
+told-order w ws name.Rack e = told-rack w ws e
 
 told-command : (ws : List Word) → Told ws (commandOf ws)
 unfolding commandOf
@@ -194,14 +225,19 @@ told line =
     let ws = wordsOf (bareOf line) in
     of-test ws (ltb longest (length (bareOf line))) command.Malformed (commandOf ws) tt (told-command ws)
 
--- the words of a `Send`, and of a `Load`
+-- the words of a `Send`, of a `Load` and of a `Rack`
 pub sending : (line : List ℕ) {time from count : ℕ} → meaningOf line ≡ command.Send time from count
-    → Carrying name.Send (wordsOf (bareOf line)) time from count
+    → Carrying name.Send (wordsOf (bareOf line)) (time ∷ []) from count
 sending line e = subst (Told (wordsOf (bareOf line))) e (told line)
 
 pub loading : (line : List ℕ) {at from count : ℕ} → meaningOf line ≡ command.Load at from count
-    → Carrying name.Load (wordsOf (bareOf line)) at from count ⊎ Without name.Load (wordsOf (bareOf line)) at count
+    → Carrying name.Load (wordsOf (bareOf line)) (at ∷ []) from count ⊎ Without name.Load (wordsOf (bareOf line)) (at ∷ []) count
 loading line e = subst (Told (wordsOf (bareOf line))) e (told line)
+
+pub racking : (line : List ℕ) {time place from count : ℕ} → meaningOf line ≡ command.Rack time place from count
+    → Carrying name.Rack (wordsOf (bareOf line)) (time ∷ place ∷ []) from count
+    ⊎ Without name.Rack (wordsOf (bareOf line)) (time ∷ place ∷ []) count
+racking line e = subst (Told (wordsOf (bareOf line))) e (told line)
 
 -- a `Space` is no more than 1,024
 pub space-within : (line : List ℕ) {size : ℕ} → meaningOf line ≡ command.Space size → size ≤ largestSpace

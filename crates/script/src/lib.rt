@@ -27,8 +27,8 @@ const LARGEST_SPACE: u32 = 1024;
 // How long a line may be.
 const LONGEST: usize = 4096;
 
-// What a line means: nothing to do, none of the commands, or a command. The bytes of a `Send` and of a `Load` stay in the line: their digits start
-// at the place `from`, and `byte_at` reads them.
+// What a line means: nothing to do, none of the commands, or a command. The bytes of a `Send`, of a `Load` and of a `Rack` stay in the line: their
+// digits start at the place `from`, and `byte_at` reads them.
 pub enum Command {
     Blank,
     Malformed,
@@ -67,6 +67,12 @@ pub enum Command {
         from: usize,
         count: usize,
     },
+    Rack {
+        time: u32,
+        place: u32,
+        from: usize,
+        count: usize,
+    },
 }
 
 // The command word, or any other.
@@ -83,6 +89,7 @@ enum Name {
     Ask,
     Save,
     Load,
+    Rack,
 }
 
 // What a line without its newline means. One of more than 4,097 bytes is malformed whatever it holds, so that its first 4,098 bytes do for it.
@@ -148,7 +155,8 @@ fn named(word: &[u8]) -> Name
     let xor = called(word, b"xor", Name::Xor, space);
     let ask = called(word, b"ask", Name::Ask, xor);
     let save = called(word, b"save", Name::Save, ask);
-    called(word, b"load", Name::Load, save)
+    let load = called(word, b"load", Name::Load, save);
+    called(word, b"rack", Name::Rack, load)
 }
 
 // The command of that name with the words from the place `from` on.
@@ -180,6 +188,7 @@ fn takes(name: Name) -> Takes
         Name::Ask => Takes([WHOLE, BYTE, BYTE, BYTE, HALF, WHOLE], 6, Last::Nothing),
         Name::Save => Takes([WHOLE, 0, 0, 0, 0, 0], 1, Last::Nothing),
         Name::Load => Takes([WHOLE, 0, 0, 0, 0, 0], 1, Last::PerhapsBytes),
+        Name::Rack => Takes([WHOLE, WHOLE, 0, 0, 0, 0], 2, Last::PerhapsBytes),
     }
 }
 
@@ -221,6 +230,12 @@ fn made(name: Name, a: Arguments) -> Command
         Name::Save => Command::Save(a.first),
         Name::Load => Command::Load {
             head: a.first,
+            from: a.from,
+            count: a.count,
+        },
+        Name::Rack => Command::Rack {
+            time: a.first,
+            place: a.second,
             from: a.from,
             count: a.count,
         },

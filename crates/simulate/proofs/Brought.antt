@@ -1,24 +1,23 @@
--- The bytes of a send and of a load: gathered one by one, handed on, and just those that stand in the line.
+-- The bytes of a send, of a load and of a rack: gathered one by one, handed on, and just those that stand in the line.
 -- Assumes nothing.
-use Prim.Native.Nat.{ℕ, zero, suc, _+_, _<_, _≤_}
+use Prim.Native.Nat.{ℕ, zero, suc, _+_, _<_}
 use mathlib.Core.Path.{_≡_, refl, ap, sym, _∙_}
 use mathlib.Core.List.{List, [], _∷_, _++_}
 use native.Mathlib.Numerals.{add-one}
 use native.Mathlib.Nat.{min-eq-left}
 use native.Mathlib.Omega.{arith}
-use lib.ListN.{length, getD, take, set, replicate, length-append}
-use lib.Seq.{length-take-le, take-suc-set, take-at}
+use lib.ListN.{length, getD, take, set}
+use lib.Seq.{take-suc-set}
 use Rattle.line.specs.Calls.{loadOf}
 use Rattle.text.specs.Lines.{bareOf}
 use Rattle.text.specs.Numbers.{bytesOf}
 use Rattle.script.specs.declared.Command.the-variants as command
 use Rattle.script.specs.Words.{wordsOf}
 use Rattle.script.specs.Meaning.{meaningOf, read}
-use Rattle.script.proofs.Carried.{thirdOf, load-bytes, load-within}
+use Rattle.script.proofs.Carried.{charsAt, load-bytes, load-within, rack-bytes, rack-within}
 use Rattle.simulate.specs.declared.desk.Desk.{Desk}
-use Rattle.simulate.specs.Sheets.{mostCarried}
 use Rattle.simulate.specs.Feeding.{nthOf}
-use Rattle.simulate.specs.Desk.{roomOf, leftOf, calledOf, feedOf, obeyedOf}
+use Rattle.simulate.specs.Desk.{roomOf, leftOf, calledOf, feedOf, rackedOf, obeyedOf}
 use Rattle.simulate.proofs.Bytes.{fed-alike}
 
 -- a byte more, and as many as are asked for
@@ -41,23 +40,9 @@ pub gathered : (f : ℕ → ℕ) (room : List ℕ) (i : ℕ) {b : ℕ} → i < l
     → take (i + 1) (set room i b) ≡ read f (i + 1)
 gathered f room i {b} h e k = rw (add-one, take-suc-set room i b h, one-more f i, k, e)
 
--- of the 2,048 bytes as many are lent as were asked for
-pub size : (n : ℕ) → n ≤ mostCarried → length (take n (replicate {A = ℕ} mostCarried 0)) ≡ n
-size n h = length-take-le n (replicate mostCarried 0) h
-
--- the first `n` bytes of the room, where so many were gathered
-module _ (f : ℕ → ℕ) {m n : ℕ} {g : List ℕ} (size : m ≡ n) (is : g ≡ read f m) (rest : List ℕ) where
-  long : length g ≡ n
-  long = rw (is, as-many f m) size
-
-  pub handed-within : n ≤ length (g ++ rest)
-  handed-within = let k = long in simp length-append (omega arith)
-
-  pub handed : take n (g ++ rest) ≡ read f n
-  handed = take-at g rest n long ∙ is ∙ rw size
-
-  pub handed-size : n ≡ length (take n (g ++ rest))
-  handed-size = sym (rw handed (as-many f n))
+-- so many bytes, where so many were gathered
+pub handed-size : (f : ℕ → ℕ) (n : ℕ) (bytes : List ℕ) → take n bytes ≡ read f n → n ≡ length (take n bytes)
+handed-size f n bytes is = sym (rw is (as-many f n))
 
 -- bytes that were read are fed as those they were read as
 pub sends : (d : Desk) (f : ℕ → ℕ) (time : ℕ) {n m : ℕ} {bytes : List ℕ} {x : Desk} → x ≡ feedOf d (nthOf bytes) time (length bytes)
@@ -72,6 +57,12 @@ sends d f time {n} {m} fed is e =
 
 -- a line that means a `Load` loads just the bytes of its third word, and none where there is no such word: they never are more than there is room for
 pub loads : (d : Desk) (line : List ℕ) {at from count : ℕ} → meaningOf line ≡ command.Load at from count
-    → obeyedOf d line ≡ calledOf d (loadOf (d .line) at (bytesOf (thirdOf (wordsOf (bareOf line)))))
+    → obeyedOf d line ≡ calledOf d (loadOf (d .line) at (bytesOf (charsAt 2 (wordsOf (bareOf line)))))
 unfolding obeyedOf
 loads d line e = rw (e, min-eq-left (load-within line e), load-bytes line e)
+
+-- so does a line that means a `Rack`, with its fourth word
+pub racks : (d : Desk) (line : List ℕ) {time place from count : ℕ} → meaningOf line ≡ command.Rack time place from count
+    → obeyedOf d line ≡ rackedOf d time place (bytesOf (charsAt 3 (wordsOf (bareOf line))))
+unfolding obeyedOf
+racks d line e = rw (e, min-eq-left (rack-within line e), rack-bytes line e)

@@ -12,13 +12,14 @@ use Rattle.master.specs.Master.{builtOf}
 use Rattle.line.specs.declared.calls.Line.{Line}
 use Rattle.line.specs.declared.calls.Called.{Called}
 use Rattle.line.specs.Calls.{emptyOf, growOf, tickOf, measureOf, keysOf, powerOf, loadOf}
+use Rattle.rack.specs.Rack.{rackOf}
 use Rattle.script.specs.declared.Command.{Command}
 use Rattle.script.specs.declared.Command.the-variants as command
 use Rattle.script.specs.Meaning.{meaningOf, byteAtOf, largestSpace}
 use Rattle.simulate.specs.declared.desk.Desk.{Desk}
 use Rattle.simulate.specs.Ask.{questionOf}
+use Rattle.simulate.specs.Carried.{broughtOf}
 use Rattle.simulate.specs.Feeding.{fedOf}
-use Rattle.simulate.specs.Sheets.{broughtOf}
 
 -- no head, and space for one reply
 unfoldable pub deskOf : Desk
@@ -57,6 +58,10 @@ askedOf d time question =
     let b = builtOf question in
     ifBuilt (b .answer) (feedOf d (λ (i : ℕ). getD (b .ten) i 0) time 10) d
 
+-- the line after a rack of these bytes, with the room that there is
+unfoldable pub rackedOf : Desk → ℕ → ℕ → List ℕ → Desk
+rackedOf d time place bytes = leftOf d (rackOf (d .line) bytes time (roomOf (d .space)) place .line)
+
 -- other space
 abbrev pub spacedOf : Desk → ℕ → Desk
 spacedOf d size = record { line = d .line; space = size }
@@ -76,6 +81,7 @@ didOf (command.Xor at) text d = d
 didOf (command.Ask time command node parameter word value) text d = askedOf d time (questionOf command node parameter word value)
 didOf (command.Save at) text d = d
 didOf (command.Load at from count) text d = calledOf d (loadOf (d .line) at (broughtOf text from count))
+didOf (command.Rack time place from count) text d = rackedOf d time place (broughtOf text from count)
 
 unfoldable pub obeyedOf : Desk → List ℕ → Desk
 obeyedOf d text = didOf (meaningOf text) text d

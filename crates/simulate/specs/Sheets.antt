@@ -1,6 +1,6 @@
--- Sheets in a script: the bytes that a load brings, and the line that shows what a save laid (document 02, request (vii)).
+-- Sheets in a script: the line that shows what a save laid (document 02, request (vii)).
 -- Assumes nothing.
-use Prim.Native.Nat.{ℕ, min}
+use Prim.Native.Nat.{ℕ}
 use Prim.Native.Char.{code}
 use mathlib.Core.Bool.{cond}
 use mathlib.Core.List.{List, [], _∷_, _++_}
@@ -9,15 +9,6 @@ use lib.ListN.{length, take, replicate}
 use Rattle.hex.specs.Digits.{digitsOf}
 use Rattle.sheet.specs.Writing.{whole}
 use Rattle.text.specs.Text.{text}
-use Rattle.script.specs.Meaning.{byteAtOf, read}
-
--- as many bytes as a line of a script can have digits for
-abbrev pub mostCarried : ℕ
-mostCarried = 2048
-
--- so many bytes, whose digits start at a place of the line; never more than the most
-abbrev pub broughtOf : List ℕ → ℕ → ℕ → List ℕ
-broughtOf line from count = read (byteAtOf line from) (min count mostCarried)
 
 -- two digits for each byte of the sheet at the start of the space; only blanks where there is no room for a sheet
 unfoldable pub savedLineOf : List ℕ → List ℕ

@@ -4,6 +4,7 @@ use crate::ask;
 use crate::carried;
 use crate::feeding;
 use crate::feeding::Purpose;
+use crate::racks;
 use crate::room;
 use crate::sheets;
 use crate::sheets::Saved;
@@ -19,14 +20,14 @@ ghost use mathlib.Core.Path.{_≡_};
 ghost use Prim.Native.Nat.{min};
 ghost use lib.ListN.{length};
 ghost use Rattle.script.specs.Meaning.{byteAtOf};
-ghost use Rattle.simulate.specs.Sheets.{mostCarried};
+ghost use Rattle.simulate.specs.Carried.{mostCarried, broughtOf};
 ghost use Rattle.simulate.specs.Feeding.{nthOf};
-ghost use Rattle.simulate.specs.Desk.{deskOf, hitLineOf, feedOf, askedOf, calledOf, pressedOf, spacedOf, obeyedOf};
+ghost use Rattle.simulate.specs.Desk.{deskOf, hitLineOf, feedOf, askedOf, calledOf, pressedOf, rackedOf, spacedOf, obeyedOf};
 
 // The most space that a script can ask for.
 const MOST_SPACE: usize = 1024;
 
-// The line, and how much space its byte, key and save calls lend.
+// The line, and how much space its byte, key, save and rack calls lend.
 pub(crate) struct Desk {
     pub line: Line,
     pub space: usize,
@@ -107,8 +108,7 @@ fn sent(d: Desk, text: &[u8], time: u32, from: usize, count: usize) -> Obeyed
     ensures { λ r. ⌜ r .desk ≡ feedOf d (byteAtOf (now (text .entry)) from) time (min count mostCarried) ⌝ }
 {
     let mut bytes = [0u8; carried::MOST];
-    let n = room::within(count, carried::MOST);
-    carried::gather(&mut bytes[..n], text, from);
+    let n = carried::gather(&mut bytes, text, from, count);
     feed(d, Purpose::Send, &bytes[..n], time)
 }
 
@@ -202,6 +202,35 @@ fn saved(d: Desk, head: usize) -> Obeyed
     }
 }
 
+// A rack of these bytes lends as much as a byte does.
+fn rack(d: Desk, time: u32, place: usize, bytes: &[u8]) -> Obeyed
+    ensures { λ r. ⌜ r .desk ≡ rackedOf d time place (now (bytes .entry)) ⌝ }
+{
+    let mut space = [0u8; MOST_SPACE];
+    let lent = room::within(d.space, MOST_SPACE);
+    let mut words = [b' '; racks::WORDS];
+    let r = racks::call(d.line, bytes, time, &mut space[..lent], place, &mut words);
+    let line = r.line;
+    let desk = Desk {
+        line: line,
+        space: d.space,
+    };
+    let answer = r.answer;
+    Obeyed {
+        desk: desk,
+        written: racks::write(answer, &words),
+    }
+}
+
+// A rack of so many bytes, whose digits start at the place `from`. A line of a script has no room for more than 2,048, which are no rack.
+fn racked(d: Desk, text: &[u8], time: u32, place: usize, from: usize, count: usize) -> Obeyed
+    ensures { λ r. ⌜ r .desk ≡ rackedOf d time place (broughtOf (now (text .entry)) from count) ⌝ }
+{
+    let mut bytes = [0u8; carried::MOST];
+    let n = carried::gather(&mut bytes, text, from, count);
+    rack(d, time, place, &bytes[..n])
+}
+
 fn spaced(d: Desk, size: usize) -> Obeyed
     ensures { λ r. ⌜ r .desk ≡ spacedOf d size ⌝ }
 {
@@ -250,5 +279,11 @@ pub(crate) fn obey(d: Desk, text: &[u8], number: u64) -> Obeyed
             d,
             sheets::load(d.line, head as usize, text, from, count),
         ),
+        Command::Rack {
+            time,
+            place,
+            from,
+            count,
+        } => racked(d, text, time, place as usize, from, count),
     }
 }

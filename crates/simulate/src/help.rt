@@ -19,10 +19,13 @@ fn words() -> bool {
     let sheets = write(
         b"  save HEAD            a head's settings on a sheet, to be loaded into another\n  load HEAD [HEX]      load the sheet of these bytes; no HEX: a sheet of no byte\n",
     );
+    let rack = write(
+        b"  rack TIME PLACE [HEX]\n                       drop what was gathered, then feed up to 64 telegrams, all\n                       at TIME; replies go into the space from PLACE on\n",
+    );
     let master = write(
         b"  ask TIME COMMAND NODE PARAMETER WORD DATA\n                       build the telegram of these fields with its check sum,\n                       feed its ten bytes at TIME, and read what comes back;\n                       WORD is up to 65535, COMMAND, NODE and PARAMETER to 255\n\n",
     );
-    what & line & heads & sheets & master
+    what & line & heads & sheets & rack & master
 }
 
 fn answers() -> bool {
@@ -39,10 +42,13 @@ fn answers() -> bool {
         b"  xor HH               the exclusive-or of the last damaged telegram that the head\n                       heard since it was switched on or restarted; 00: none\n",
     );
     let saved = write(b"  saved HEX            the sheet, 274 bytes (two hex digits each)\n");
-    let refused = write(
-        b"  refused N            1 node number not 1 to 127   4 measurement out of range\n                       2 thirty-third head          5 key state above 7\n                       3 no such head               6 space under ten bytes\n                       10 command above 2 or node above 127\n                       11 sheet malformed           13 value out of its row\n                       12 address not among the 39  14 space under 274 bytes\n                       17 serial already on the line\n  error at line N      the line is none of these commands\n",
+    let racked = write(
+        b"  racked N M ...       fed, with N replies and M collisions; then each reply as\n                       twenty hex digits\n",
     );
-    form & done & asked & hit & saved & refused
+    let refused = write(
+        b"  refused N            1 node number not 1 to 127   4 measurement out of range\n                       2 thirty-third head          5 key state above 7\n                       3 no such head               6 space under ten bytes\n                       10 command above 2 or node above 127\n                       11 sheet malformed           13 value out of its row\n                       12 address not among the 39  14 space under 274 bytes\n                       15 not whole telegrams, or more than 64\n                       16 space from PLACE on shorter than the telegrams\n                       17 serial already on the line\n  error at line N      the line is none of these commands\n",
+    );
+    form & done & asked & hit & saved & racked & refused
 }
 
 // The only argument that there is.

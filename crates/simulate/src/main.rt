@@ -5,6 +5,7 @@ mod carried;
 mod desk;
 mod feeding;
 mod help;
+mod racks;
 mod reading;
 mod room;
 mod sheets;

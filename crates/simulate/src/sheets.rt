@@ -1,6 +1,5 @@
 // Sheets in a script: the bytes that a load brings, and the line that shows what a save laid.
 use crate::carried;
-use crate::room;
 use head::calls::Answer;
 use line::calls;
 use line::calls::Called;
@@ -8,7 +7,8 @@ use line::calls::Line;
 ghost use mathlib.Core.Path.{_≡_};
 ghost use lib.ListN.{length};
 ghost use Rattle.line.specs.Calls.{loadOf, saveOf, saveSpaceOf};
-ghost use Rattle.simulate.specs.Sheets.{broughtOf, savedLineOf};
+ghost use Rattle.simulate.specs.Carried.{broughtOf};
+ghost use Rattle.simulate.specs.Sheets.{savedLineOf};
 
 // What a save came to: the call's answer, and the line to write where that is Done.
 pub(crate) struct Saved {
@@ -21,8 +21,7 @@ pub(crate) fn load(l: Line, head: usize, text: &[u8], from: usize, count: usize)
     ensures { λ r. ⌜ r ≡ loadOf l head (broughtOf (now (text .entry)) from count) ⌝ }
 {
     let mut sheet = [0u8; carried::MOST];
-    let n = room::within(count, carried::MOST);
-    carried::gather(&mut sheet[..n], text, from);
+    let n = carried::gather(&mut sheet, text, from, count);
     calls::load(l, head, &sheet[..n])
 }
 

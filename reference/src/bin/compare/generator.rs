@@ -4,6 +4,7 @@
 mod ask;
 mod auto_id;
 mod display;
+mod rack;
 mod serial;
 mod sheet;
 mod status_word;
@@ -23,20 +24,23 @@ pub const LINES: usize = 400;
 const FEW_HEADS: usize = 8;
 
 /// Of a hundred steps, in one script after the other: a head in mode 3 shows nothing of windows.
-const DISPLAY_STEPS: [u32; 3] = [18, 1, 4];
+const DISPLAY_STEPS: [u32; 3] = [22, 1, 4];
 
 /// Of a hundred of the other steps, likewise: every adoption is a restart, and without some calm heads have no
 /// past to show.
-const AUTO_ID_STEPS: [u32; 4] = [16, 0, 10, 5];
+const AUTO_ID_STEPS: [u32; 4] = [18, 0, 11, 5];
 
 /// Of a hundred of those that are left, likewise.
-const STATUS_WORD_STEPS: [u32; 4] = [4, 13, 8, 9];
+const STATUS_WORD_STEPS: [u32; 4] = [5, 14, 8, 9];
 
 /// Of a hundred of those that are left, likewise.
-const SHEET_STEPS: [u32; 4] = [10, 13, 9, 15];
+const SHEET_STEPS: [u32; 4] = [11, 14, 10, 16];
 
 /// Of a hundred of those that are left, likewise: the line grows by some of them.
 const SERIAL_STEPS: [u32; 5] = [4, 1, 2, 5, 1];
+
+/// Of a hundred of those that are left, likewise.
+const RACK_STEPS: [u32; 5] = [10, 14, 9, 12, 11];
 
 /// Unknown words, missing and extra words, numbers that do not fit, hex digits that are none.
 const LINES_THAT_ARE_NONE: &str =
@@ -45,7 +49,8 @@ const LINES_THAT_ARE_NONE: &str =
     head 1 -2|head 1 +2|head 1 -0|head 1 1F|head 1 0x1F|head 1 4294967296|head 1 4294967297|\
     head 1 18446744073709551617|head 1 2#|head 1,2|send|send 0|send 0 0|send 0 001F2|\
     send 0 0G|send 0 00 00|send 0 0x00|send 4294967296 00|send -1 00|ask|ask 0|ASK 0 0 31 32 0 0|\
-    asks 0 0 31 32 0 0|ask0 0 0 31 32 0 0|ask 0 0 31 32 0 0#|tick|tick 1 2|tick 4294967296|tick -0|\
+    asks 0 0 31 32 0 0|ask0 0 0 31 32 0 0|ask 0 0 31 32 0 0#|rack|rack 0|rack 0 0 0|rack 0 0 0G|rack 0 0 00 00|\
+    rack 0 0x0|rack 0 -0|RACK 0 0|racks 0 0|rack0 0|tick|tick 1 2|tick 4294967296|tick -0|\
     measure 0|measure 0 1 2|measure 0 2147483648|measure 0 -2147483649|measure 0 -|measure 0 --1|\
     measure 0 +1|measure -0 1|keys 0|keys 0 -1|keys 0 4 10|power|power 0 0|xor|xor 0 0|xor 0 1|\
     xor -1|xor -0|xor +0|xor x|xor 1F|xor 0x0|xor 0#|xor 4294967296|xor 18446744073709551616|XOR 0|xors 0|\
@@ -64,6 +69,7 @@ pub struct Generator {
     status_word_steps: u32,
     sheet_steps: u32,
     serial_steps: u32,
+    rack_steps: u32,
     /// The sheets that were written so far.
     saved: Vec<Vec<u8>>,
     lines: Vec<Vec<u8>>,
@@ -85,6 +91,7 @@ pub fn script(seed: u64, number: u64) -> Text {
         status_word_steps: STATUS_WORD_STEPS[(number % 4) as usize],
         sheet_steps: SHEET_STEPS[(number % 4) as usize],
         serial_steps: SERIAL_STEPS[(number % 5) as usize],
+        rack_steps: RACK_STEPS[(number % 5) as usize],
         saved: Vec::new(),
         lines: Vec::new(),
     };
@@ -109,6 +116,9 @@ impl Generator {
         }
         if self.random.chance(20) {
             self.sheet_at_no_head();
+        }
+        if self.random.chance(30) {
+            self.rack_before_any_head();
         }
         let as_delivered = self.random.chance(20).then_some(u32::from(FACTORY_NODE));
         let count = self.head_count();
@@ -141,9 +151,12 @@ impl Generator {
         if self.random.chance(self.serial_steps) {
             return self.serial();
         }
+        if self.random.chance(self.rack_steps) {
+            return self.rack();
+        }
         match self.random.below(100) {
-            0..=35 => self.send_telegrams(),
-            36..=48 => self.ask(),
+            0..=33 => self.send_telegrams(),
+            34..=48 => self.ask(),
             49..=54 => self.send_split(),
             55..=57 => self.send_damaged(),
             58..=59 => self.send_stray_bytes(),
@@ -244,8 +257,11 @@ impl Generator {
     }
 
     fn send(&mut self, bytes: &[u8]) {
-        match self.asked_instead(bytes) {
-            Some(question) => self.write_ask(&question),
+        if let Some(question) = self.asked_instead(bytes) {
+            return self.write_ask(&question);
+        }
+        match self.racked_instead(bytes) {
+            Some(place) => self.write_rack(place, bytes),
             None => self.feed(format!("send {} {}", self.now, hex(bytes))),
         }
     }
@@ -304,6 +320,7 @@ impl Generator {
             4 => self.space(),
             5 => self.xor(),
             6 => self.load_somewhere(),
+            7 => self.rack_of_any_sort(),
             _ => {}
         }
     }
@@ -498,7 +515,7 @@ impl Generator {
     }
 
     /// Mostly its end, so that heads are heard again; before it keys and questions, which are refused as bytes
-    /// are, and sheets, which are written into it or not.
+    /// are, and sheets and racks, for which there is room or not.
     fn in_short_space(&mut self) {
         match self.random.below(10) {
             0..=1 => self.keys(),
@@ -506,6 +523,7 @@ impl Generator {
             2 => self.refused(),
             3 => self.ask_one(),
             4 => self.sheet_in_short_space(),
+            5 => self.rack_in_short_space(),
             _ => self.write_line("space 10".to_string()),
         }
     }
@@ -565,9 +583,10 @@ impl Generator {
             1 => String::new(),
             2 => format!("keys {} 0", self.random.below(3)),
             _ => {
-                let begun = match self.random.chance(70) {
-                    true => format!("send {} ", self.now),
-                    false => "load 0 ".to_string(),
+                let begun = match self.random.below(10) {
+                    0..=4 => format!("send {} ", self.now),
+                    5..=7 => format!("rack {} 0 ", self.now),
+                    _ => "load 0 ".to_string(),
                 };
                 let digits = length - begun.len();
                 return begun + &"0".repeat(digits);
@@ -577,13 +596,14 @@ impl Generator {
     }
 
     fn odd_bytes(&mut self) {
-        let mut line = match self.random.below(7) {
+        let mut line = match self.random.below(8) {
             0 => Vec::new(),
             1 => format!("head 1 {}", self.random.below(100)).into_bytes(),
             2 => b"xor 0".to_vec(),
             3 => b"save 0".to_vec(),
             4 => b"load 0 00".to_vec(),
             5 => format!("ask {} 0 31 32 0 0", self.now).into_bytes(),
+            6 => format!("rack {} 0 00", self.now).into_bytes(),
             _ => format!("send {} 00", self.now).into_bytes(),
         };
         for _ in 0..self.random.below(6) {

@@ -11,13 +11,15 @@ pub type StillDiffers<'a, T> = &'a mut dyn FnMut(&T) -> bool;
 /// Each try runs a program, and the bytes of a long form are many.
 const MOST_TRIES_FOR_A_FORM: u32 = 2_000;
 
-/// Drops lines, heads, bytes of sends, fields of questions and rows of sheets, and again, until nothing more can go.
+/// Drops lines, heads, bytes of sends and racks, fields of questions and rows of sheets, and again, until nothing more
+/// can go.
 pub fn shrink_script(mut script: Text, still_differs: StillDiffers<Text>) -> Text {
     loop {
         let length_before = script.bytes().len();
         shrink_lines(&mut script, still_differs);
         shrink_heads(&mut script, still_differs);
         shrink_sends(&mut script, still_differs);
+        shrink_racks(&mut script, still_differs);
         shrink_asks(&mut script, still_differs);
         shrink_loads(&mut script, still_differs);
         if script.bytes().len() == length_before {
@@ -125,6 +127,36 @@ fn shrink_sends(script: &mut Text, still_differs: StillDiffers<Text>) {
         drop_chunks(&mut bytes, TELEGRAM_LENGTH, &mut differs);
         shrink_list(&mut bytes, &mut differs);
         *script = with(&bytes);
+    }
+}
+
+/// Telegrams go before single bytes, as those that are left would be others.
+fn shrink_racks(script: &mut Text, still_differs: StillDiffers<Text>) {
+    for number in 0..script.lines.len() {
+        let Meaning::Command(Command::Rack { time, place, mut bytes }) = meaning(&script.lines[number])
+        else {
+            continue;
+        };
+        let with = |bytes: &[u8]| {
+            let mut changed = script.clone();
+            changed.lines[number] = rack_line(time, place, bytes).into_bytes();
+            changed
+        };
+        // If the spelling of the line makes the difference, its bytes do not.
+        if !still_differs(&with(&bytes)) {
+            continue;
+        }
+        let mut differs = |bytes: &[u8]| still_differs(&with(bytes));
+        drop_chunks(&mut bytes, TELEGRAM_LENGTH, &mut differs);
+        shrink_list(&mut bytes, &mut differs);
+        *script = with(&bytes);
+    }
+}
+
+fn rack_line(time: u32, place: u32, bytes: &[u8]) -> String {
+    match bytes {
+        [] => format!("rack {time} {place}"),
+        _ => format!("rack {time} {place} {}", hex(bytes)),
     }
 }
 
@@ -258,6 +290,25 @@ mod tests {
         let script = text(&["head 31 4711", "tick 5", "send 7 001122334455", "# x"]);
         let mut has_33 = |script: &Text| script.bytes().windows(2).any(|pair| pair == b"33");
         assert_eq!(shrink_script(script, &mut has_33).bytes(), b"send 7 33\n");
+    }
+
+    #[test]
+    fn telegrams_of_racks_go_too() {
+        let telegrams = "001F200000000000003F001F210000000000003E001F220000000000003D";
+        let script = text(&["head 31 4711", &format!("rack  7 005 {telegrams}"), "rack 7 0"]);
+        let mut reads_21h = |script: &Text| {
+            script.lines.iter().any(|line| match meaning(line) {
+                Meaning::Command(Command::Rack { bytes, .. }) => {
+                    bytes.chunks(10).any(|telegram| telegram.len() == 10 && telegram[2] == 0x21)
+                }
+                _ => false,
+            })
+        };
+        let shrunk = shrink_script(script, &mut reads_21h);
+        assert_eq!(shrunk.bytes(), b"rack 7 5 001F210000000000003E\n");
+        let script = text(&["rack 7 5 001122334455", "send 7 00"]);
+        let mut is_at_5 = |script: &Text| script.bytes().starts_with(b"rack 7 5");
+        assert_eq!(shrink_script(script, &mut is_at_5).bytes(), b"rack 7 5\n");
     }
 
     #[test]

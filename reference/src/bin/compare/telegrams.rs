@@ -49,10 +49,10 @@ impl Author<'_> {
     /// A sound telegram, more often than others one that is refused.
     pub fn question(&mut self) -> Telegram {
         match self.random.below(20) {
-            0 => self.wrong_access(),
-            1 => self.unknown_parameter(),
-            2 => self.auto_id(),
-            3..=4 => self.value_beside_the_range(),
+            0..=1 => self.wrong_access(),
+            2 => self.unknown_parameter(),
+            3 => self.auto_id(),
+            4..=6 => self.value_beside_the_range(),
             _ => self.any_telegram(),
         }
     }
@@ -65,6 +65,7 @@ impl Author<'_> {
             (rows::OFFSET_VALUE, -20_000),
             (rows::CALIBRATION_VALUE, 100_000),
             (rows::OPERATING_MODE, 4),
+            (rows::ACKNOWLEDGEMENT_SETTINGS, 1),
             (rows::ACKNOWLEDGEMENT_SETTINGS, 1),
             (rows::ACKNOWLEDGEMENT_SETTINGS, 1),
             (rows::ACKNOWLEDGEMENT_SETTINGS, 3),

@@ -3,12 +3,11 @@
 use Prim.Native.Nat.{_≤_, _<_, _-_}
 use mathlib.Core.Path.{_≡_, refl, sym, _∙_}
 use native.Mathlib.Omega.{arith}
-use native.Mathlib.Numerals.{add-one}
 use borrow.Author.Needs.{needs}
 use lib.ListN.{length}
 use Rattle.line.specs.Round.{each, tickedAt}
 use Rattle.line.specs.Calls.{tickOf}
-use Rattle.line.proofs.Laws.{parts-long, each-turn, each-ahead, fits-small}
+use Rattle.line.proofs.Laws.{parts-long, each-step, fits-small}
 use Rattle.line.proofs.calls.tick.Statement.{statement}
 use Rattle.line.proofs.calls.tick.Tie as tie
 
@@ -34,7 +33,7 @@ tick-spec =
     let a = k .before .before .before .args in
     let v = k .loop .inv in
     let p : k .loop .i < length (a .l .heads) = omega (arith, v .1, v .4, c .before .before .loop-test .taken) in
-    (omega (arith, c .before .before .loop-test .taken), v .1, rw (c .ticked .ensures, v .2, each-ahead, add-one, each-turn (tickedAt (a .at)) _ (k .loop .i) (a .l .heads)), v .3, v .4))
+    (omega (arith, c .before .before .loop-test .taken), v .1, rw (c .ticked .ensures) (each-step (tickedAt (a .at)) _ (k .loop .i) (a .l .heads) (v .2) p), v .3, v .4))
     (λ c κs. tt)
     (λ c. let k = c .before .before in
     let f = sym (k .before .before .fits2 .ensures) ∙ k .before .if1 .taken in

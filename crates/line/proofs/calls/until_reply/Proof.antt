@@ -7,6 +7,7 @@ use native.Mathlib.Omega.{arith}
 use borrow.Author.Needs.{needs}
 use borrow.Author.Tests.{eqb-true, eqb-false}
 use lib.ListN.{length, getD, drop, drop-of-length-le}
+use Rattle.head.specs.Hear.{stepOf}
 use Rattle.head.proofs.Passes.{step-more, step-told}
 use Rattle.line.proofs.Laws.{parts-long, fits-small, Heard, unheard, heard-turn, heard-few}
 use Rattle.line.proofs.Stretch.{Going, going-start, going-next, going-stopped, going-through, until-malformed, until-short, until-heard}
@@ -14,7 +15,7 @@ use Rattle.line.proofs.calls.until_reply.Statement.{statement}
 use Rattle.line.proofs.calls.until_reply.Tie as tie
 
 abbrev Inv-loop2 : tie.InvT-loop2
-Inv-loop2 bytes from at space k₀ n j replies₀ b i₀ k replies i = (i ≤ n) × Heard b at k₀ i k replies
+Inv-loop2 bytes from at space k₀ n j replies₀ b i₀ k replies i = (i ≤ n) × Heard (λ h. stepOf h b at) k₀ i k replies
 
 abbrev μ-loop2 : tie.MeasureT-loop2
 μ-loop2 bytes from at space k₀ n j replies₀ b i₀ k replies i = n - i
@@ -35,7 +36,7 @@ turned : (c : tie.Joined4 Inv-loop2 μ-loop2 Inv-loop μ-loop)
     → let t = c .before .before .before .before in
     let o = t .before .before .before .before .before in
     let a = o .before .before .before .before .before .before .before .args in
-    Heard (getD (a .bytes .now) (o .loop .j) 0) (a .at) (o .loop .k) (t .loop2 .i + 1) (c .if4 .k) (c .if4 .replies)
+    Heard (λ h. stepOf h (getD (a .bytes .now) (o .loop .j) 0) (a .at)) (o .loop .k) (t .loop2 .i + 1) (c .if4 .k) (c .if4 .replies)
 turned c =
     let t = c .before .before .before .before in
     let k = t .loop2 in
@@ -43,7 +44,7 @@ turned c =
     let a = o .before .before .before .before .before .before .before .args in
     let v = o .loop .inv in
     let p : k .i < length (o .loop .k .heads) = omega (arith, v .2, v .3 .places, inside (c .before .before .before)) in
-    let turn = heard-turn (getD (a .bytes .now) (o .loop .j) 0) (a .at) (o .loop .k) (k .i) (k .k) (k .replies) (k .inv .1) p _ in
+    let turn = heard-turn (λ h. stepOf h (getD (a .bytes .now) (o .loop .j) 0) (a .at)) (o .loop .k) (k .i) (k .k) (k .replies) (k .inv .1) p _ in
     let g = c .before .gather .ensures in
     ⊎-elim (λ w. turn (w .3 .result) (w .3 .ensures ∙ step-told _ _ _ _ g (w .0 .taken)) _ (w .7) _ (w .8 ∙ w .5 .ensures))
     (λ w. turn _ (step-more _ _ _ _ g (w .0 .left)) _ (w .3) _ (w .4))
@@ -64,7 +65,7 @@ until-reply-spec =
     (fits-small l (sym (o .before .fits2 .ensures) ∙ o .if1 .taken), refl, search (needs, parts-long), going-start _ _ _ _ (c .none .ensures)))
     (λ c. c .before .before .before .loop-test .taken)
     (λ c. let o = c .before .before .before .before in
-    (omega arith, unheard _ _ _ (o .loop .inv .3 .none (eqb-true _ _ (c .before .if3 .taken)))))
+    (omega arith, unheard _ _ (o .loop .inv .3 .none (eqb-true _ _ (c .before .if3 .taken)))))
     (λ c. search needs) (λ c. search needs) (λ c κs. tt) (λ c. search needs) (λ c. search needs) (λ c κs. tt)
     (λ c κs. let t = c .before .before .before .before .before .before .before in
     omega (arith, heard-few (t .before .loop2 .inv .1), inside t))

@@ -13,9 +13,9 @@ use Rattle.script.specs.declared.Command.{Command}
 use Rattle.script.specs.declared.Command.the-variants as command
 use Rattle.script.specs.Meaning.{meaningOf, byteAtOf}
 use Rattle.script.proofs.Carried.{send-within}
-use Rattle.simulate.specs.Sheets.{mostCarried}
+use Rattle.simulate.specs.Carried.{mostCarried, broughtOf}
 use Rattle.simulate.specs.declared.desk.Desk.{Desk}
-use Rattle.simulate.specs.Desk.{didOf, calledOf, feedOf, obeyedOf}
+use Rattle.simulate.specs.Desk.{didOf, calledOf, feedOf, rackedOf, obeyedOf}
 use Rattle.simulate.proofs.desk.obey.Statement.{statement}
 use Rattle.simulate.proofs.desk.obey.Tie as tie
 
@@ -34,6 +34,11 @@ fed : {m : Command} (d : Desk) (text : List ℕ) (x : Desk) (time from count : �
     → m ≡ meaningOf text → m ≡ command.Send time from count → x ≡ obeyedOf d text
 fed d text x time from count p s t =
     p ∙ ap (feedOf d (byteAtOf text from) time) (min-eq-left (send-within text (sym s ∙ t))) ∙ did d text _ _ s t
+
+-- a rack of the bytes that its line brings
+racked : {m : Command} (d : Desk) (text : List ℕ) (x : Desk) (time place from count : ℕ) → x ≡ rackedOf d time place (broughtOf text from count)
+    → m ≡ meaningOf text → m ≡ command.Rack time place from count → x ≡ obeyedOf d text
+racked d text x time place from count p s t = p ∙ did d text _ _ s t
 
 pub obey-spec : {M : Type 1} → statement M
 obey-spec =
@@ -78,6 +83,9 @@ obey-spec =
     (λ c. search needs)
     (λ c κs. tt)
     (λ c κs. tt)
+    (λ c. search needs)
+    (λ c. search needs)
+    (λ c κs. tt)
     (λ c. did _ _ _ _ (c .before .before .meaning .ensures) (c .enum-told .given .1))
     (λ c. did _ _ _ _ (c .before .before .before .meaning .ensures) (c .before .enum-told2 .given .1))
     (λ c. let k = c .before .before .before in
@@ -99,4 +107,5 @@ obey-spec =
     c .asked .ensures ∙ rw (c .before .question .ensures) (did _ _ _ _ (k .before .before .meaning .ensures) (k .time3 .given .1)))
     (λ c. let k = c .before .before in c .saved .ensures ∙ did _ _ _ _ (k .before .before .meaning .ensures) (k .head5 .given .1))
     (λ c. let k = c .before .before .before in
-    called (k .before .before .before .before .args .d) _ _ _ (loadOf _ _ _) (c .done5 .ensures) (c .before .load .ensures) (k .before .before .meaning .ensures) (k .head6 .given .1) refl))
+    called (k .before .before .before .before .args .d) _ _ _ (loadOf _ _ _) (c .done5 .ensures) (c .before .load .ensures) (k .before .before .meaning .ensures) (k .head6 .given .1) refl)
+    (λ c. let k = c .before .before in racked _ _ _ _ _ _ _ (c .racked .ensures) (k .before .before .meaning .ensures) (k .time4 .given .1)))

@@ -216,7 +216,7 @@ impl Generator {
         if self.random.chance(60) {
             self.keys_of(number, &[8, 9, 12, 255]);
         }
-        if self.random.chance(40) {
+        if self.random.chance(55) {
             let missing = self.model.line().heads().len();
             self.keys_of(missing, &[0, 4, 8]);
         }
@@ -429,7 +429,9 @@ mod tests {
                 step.before.iter().zip(&step.after).any(|(&before, &after)| is_meant(before, after))
             }
         };
-        let is_telegram = |step: &Step| matches!(step.command, Command::Send { .. } | Command::Ask { .. });
+        let is_telegram = |step: &Step| {
+            matches!(step.command, Command::Send { .. } | Command::Ask { .. } | Command::Rack { .. })
+        };
         let is_power = |step: &Step| matches!(step.command, Command::Power { .. });
         let is_made = changes(|before, after| before.is_none() && after.is_some());
         let is_replaced = changes(|before, after| before.is_some() && after.is_some() && before != after);

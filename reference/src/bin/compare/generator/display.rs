@@ -337,7 +337,7 @@ mod tests {
 
         /// Whether it is nothing but one telegram of this sort, for this head or for all.
         fn is(&self, command: u8, parameter: u8, value: Option<u32>) -> bool {
-            let Command::Send { bytes, .. } = &self.command else {
+            let (Command::Send { bytes, .. } | Command::Rack { bytes, .. }) = &self.command else {
                 return false;
             };
             let Ok(bytes) = <[u8; TELEGRAM_LENGTH]>::try_from(bytes.as_slice()) else {

@@ -265,7 +265,8 @@ impl Generator {
     fn on_a_long_line(&mut self) {
         match self.random.below(10) {
             0..=2 => self.fill_the_line(),
-            3..=6 => self.tick_at_the_far_end(),
+            3..=5 => self.tick_at_the_far_end(),
+            6..=7 => self.rack_amid_a_telegram(),
             _ => self.broadcast_to_the_far_end(),
         }
     }
@@ -292,7 +293,7 @@ impl Generator {
     }
 
     pub(super) fn grow_beyond_the_last(&mut self) {
-        for _ in 0..self.random.pick(&[1, 1, 2]) {
+        for _ in 0..self.random.pick(&[1, 2, 2]) {
             match self.random.below(6) {
                 0..=1 => self.repeat_a_serial(),
                 2 => self.repeat_a_serial_at_no_node(),
@@ -324,7 +325,7 @@ impl Generator {
     }
 
     /// One of the last heads, mostly the last.
-    fn far_head(&mut self) -> usize {
+    pub(super) fn far_head(&mut self) -> usize {
         let count = self.model.line().heads().len();
         count - 1 - self.random.pick(&[0, 0, 0, 0, 1, 7]).min(count - 1)
     }

@@ -381,6 +381,7 @@ mod tests {
                         self.hear(time, byte);
                     }
                 }
+                Command::Rack { time, place, bytes } => self.obey_rack(time, place as usize, &bytes),
                 Command::Tick { time } => self.line.tick(time),
                 Command::Measure { head, value } => drop(self.line.measure(head, value)),
                 Command::Keys { head, state } => drop(self.line.keys(head, state, &mut self.space)),
@@ -388,6 +389,18 @@ mod tests {
                 Command::Space { size } => self.space = vec![0; size],
                 Command::Load { head, sheet } => drop(self.line.load(head, &sheet)),
                 Command::Xor { .. } | Command::Save { .. } => {}
+            }
+        }
+
+        /// Byte by byte, after one without any, if a copy of the line does not refuse it.
+        fn obey_rack(&mut self, time: u32, place: usize, bytes: &[u8]) {
+            if self.line.clone().rack(time, bytes, place, &mut self.space).is_err() {
+                return;
+            }
+            self.line.rack(time, &[], 0, &mut []).expect("there is room for none");
+            for &byte in bytes {
+                let answered = self.hear(time, byte);
+                self.answered.extend(answered);
             }
         }
 
