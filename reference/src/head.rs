@@ -44,11 +44,10 @@ const STATUS_IN_WINDOW_1: u16 = 1 << 5;
 const STATUS_ABOVE: u16 = 1 << 6;
 const STATUS_ERROR_PENDING: u16 = 1 << 7;
 const STATUS_FROZEN: u16 = 1 << 8;
-const STATUS_INCREMENTAL: u16 = 1 << 9;
 const STATUS_SET_POINT_2_VALID: u16 = 1 << 10;
 const STATUS_KEYS_FROM: u16 = 13;
 
-/// What three of the bits mean in the alpha-numeric display.
+/// What bits mean in the alpha-numeric display alone; the last of them is 0 in all other modes.
 const STATUS_SET_POINT_1_ACKNOWLEDGED: u16 = 1 << 3;
 const STATUS_SET_POINT_2_ACKNOWLEDGED: u16 = 1 << 5;
 const STATUS_CHARACTERS: u16 = 1 << 9;
@@ -129,6 +128,7 @@ struct Running {
     keys: u8,
     number_on_offer: Option<u8>,
     kept_position: Option<i64>,
+    /// The measurement at which an older head was switched to incremental measurement; no head of today ever is.
     incremental_start: Option<i32>,
     monitor_started_at: Option<u32>,
     gathered: Vec<u8>,
@@ -196,6 +196,12 @@ impl Head {
     /// A stored value; the address is one of the 39.
     pub fn value(&self, address: u8) -> i32 {
         self.values[place_of(address)]
+    }
+
+    /// Whether the head is from before incremental measurement was retired and has something of it left. None that is
+    /// made here is.
+    pub fn is_older(&self) -> bool {
+        self.value(rows::INCREMENTAL_KEY_ENABLE) > 0 || self.running.incremental_start.is_some()
     }
 
     /// All stored values, in the order of the rows, which is that of their addresses.
@@ -324,6 +330,13 @@ impl Head {
         }
         self.change_values(values);
         Ok(())
+    }
+
+    /// Brings an older head over: 35h becomes 0, and its position is absolute again. It is no telegram and no restart, so
+    /// that all else is kept.
+    pub fn bring(&mut self) {
+        self.values[place_of(rows::INCREMENTAL_KEY_ENABLE)] = 0;
+        self.running.incremental_start = None;
     }
 
     /// Restart, by power or by A0h 9.
@@ -615,15 +628,10 @@ impl Head {
         self.running.set_point_2.acknowledge();
     }
 
-    /// With a number on offer the key adopts it, whatever 35h says, and does nothing else.
+    /// Adopts the number on offer; without one the key does nothing, as operators press it by mistake.
     fn up_pressed(&mut self, status_word_before: u16) -> Option<Reply> {
-        if let Some(number) = self.running.number_on_offer {
-            return Some(self.adopt(number, status_word_before));
-        }
-        if self.value(rows::INCREMENTAL_KEY_ENABLE) == 1 {
-            self.switch_incremental();
-        }
-        None
+        let number = self.running.number_on_offer?;
+        Some(self.adopt(number, status_word_before))
     }
 
     /// The reply that the offer went without, from the number that it was sent to. The restart comes last: it
@@ -632,13 +640,6 @@ impl Head {
         self.values[place_of(rows::NODE_ADDRESS)] = i32::from(number);
         self.restart();
         Telegram::new(WRITE, FACTORY_NODE, rows::AUTO_ID, status_word_before, u32::from(number)).bytes()
-    }
-
-    fn switch_incremental(&mut self) {
-        self.running.incremental_start = match self.running.incremental_start {
-            Some(_) => None,
-            None => Some(self.measurement),
-        };
     }
 
     // Position and status.
@@ -650,14 +651,8 @@ impl Head {
     }
 
     pub fn position(&self) -> i64 {
-        let measurement = i64::from(self.measurement);
-        match self.running.incremental_start {
-            Some(start) => measurement - i64::from(start),
-            None => {
-                let offset = i64::from(self.value(rows::OFFSET_VALUE));
-                measurement - i64::from(self.zero) + i64::from(self.adopted_calibration) + offset
-            }
-        }
+        let offset = i64::from(self.value(rows::OFFSET_VALUE));
+        i64::from(self.measurement) - i64::from(self.zero) + i64::from(self.adopted_calibration) + offset
     }
 
     /// The value that the set point is held against (A).
@@ -728,13 +723,8 @@ impl Head {
 
     /// The bits that all other modes have.
     fn position_bits(&self) -> u16 {
-        let running = &self.running;
-        let target_bits = if running.set_point_2.is_valid { self.target_bits() } else { 0 };
-        let bits = bits_where(&[
-            (running.static_bit, STATUS_STATIC),
-            (running.incremental_start.is_some(), STATUS_INCREMENTAL),
-        ]);
-        target_bits | bits
+        let target_bits = if self.running.set_point_2.is_valid { self.target_bits() } else { 0 };
+        target_bits | bits_where(&[(self.running.static_bit, STATUS_STATIC)])
     }
 
     /// The bits that a valid set point 2 gives.
@@ -803,8 +793,157 @@ fn divided(position: i64, divisor: i64) -> i64 {
 }
 
 #[cfg(test)]
+impl Head {
+    /// What an older head may have: 35h at 1, or incremental measurement on since this measurement. No call of today
+    /// leads there.
+    pub(crate) fn make_older(&mut self, key_enable: i32, incremental_start: Option<i32>) {
+        self.values[place_of(rows::INCREMENTAL_KEY_ENABLE)] = key_enable;
+        self.running.incremental_start = incremental_start;
+    }
+}
+
+#[cfg(test)]
 mod tests {
     use super::*;
+
+    /// 35h at 1, incremental on, and both.
+    const OLDER: [(i32, Option<i32>); 4] =
+        [(1, None), (0, Some(900)), (1, Some(900)), (1, Some(-HIGHEST_MEASUREMENT))];
+
+    fn everything(head: &Head) -> String {
+        format!("{head:?}")
+    }
+
+    fn obey(head: &mut Head, parameter: u8, control_word: u16, data: u32) {
+        head.obey(&Telegram::new(WRITE, FACTORY_NODE, parameter, control_word, data));
+    }
+
+    /// One that has some of everything. Its position is 1012 - 1000 + 50.
+    fn with_a_past() -> Head {
+        let mut head = Head::factory(4_711);
+        obey(&mut head, rows::CALIBRATION_VALUE, 0, 50);
+        head.measure(1_000);
+        head.calibrate();
+        head.measure(1_012);
+        obey(&mut head, rows::SET_POINT_1, CONTROL_SET_POINT_1_VALID, 1_234);
+        obey(&mut head, rows::SET_POINT_2, CONTROL_SET_POINT_2_VALID | CONTROL_CHARACTERS, 62);
+        obey(&mut head, rows::FREEZE, 0, 1);
+        obey(&mut head, rows::PROGRAMMING_MODE, 0, 1);
+        obey(&mut head, rows::NODE_ADDRESS, 0, 12);
+        obey(&mut head, rows::AUTO_ID, 0, 5);
+        head.raise(telegram::BUS_TIMEOUT);
+        head.set_keys(KEY_STAR);
+        // A sound one, which starts the monitor and is refused; a damaged one; and half of one.
+        let unknown = Telegram::new(READ, FACTORY_NODE, 0x63, 0, 0).bytes();
+        for byte in unknown.iter().chain(&[0, 0, 0, 0, 0, 0, 0, 0, 0, 1]).chain(&unknown[..5]) {
+            head.byte(7, *byte);
+        }
+        head
+    }
+
+    #[test]
+    fn an_older_head_that_is_brought_over_keeps_all_else() {
+        for (key_enable, start) in OLDER {
+            let mut head = with_a_past();
+            head.make_older(key_enable, start);
+            assert!(head.is_older());
+            head.bring();
+            assert!(!head.is_older());
+            assert_eq!(everything(&head), everything(&with_a_past()), "{key_enable} {start:?}");
+        }
+    }
+
+    /// Star and the bits 10, 8, 7, 6, 5, 4 and 2, as 63 lies above S 62 in the window; the kept 62, and then 63.
+    #[test]
+    fn an_older_head_that_is_brought_over_shows_what_it_had() {
+        for (key_enable, start) in OLDER {
+            let mut head = with_a_past();
+            head.make_older(key_enable, start);
+            head.measure(1_013);
+            head.bring();
+            assert_eq!(head.status_word(), 0x45F4, "{key_enable} {start:?}");
+            assert_eq!((head.gathered_count(), head.bits_hit(), head.input_error_count()), (5, 1, 1));
+            assert_eq!(head.value(rows::INCREMENTAL_KEY_ENABLE), 0);
+            assert_eq!(head.obey(&Telegram::new(READ, FACTORY_NODE, rows::POSITION_VALUE, 0, 0)), 62);
+            assert_eq!(head.obey(&Telegram::new(READ, FACTORY_NODE, rows::POSITION_VALUE, 0, 0)), 63);
+        }
+    }
+
+    /// Bringing over is neither a measurement nor a write of FFh: in the window, the static bit cleared, it sets none.
+    #[test]
+    fn an_older_head_that_is_brought_over_does_not_become_static() {
+        for (key_enable, start) in OLDER {
+            let mut head = with_a_past();
+            head.obey(&Telegram::new(READ, FACTORY_NODE, rows::STATUS_WORD, 0, 0));
+            head.make_older(key_enable, start);
+            head.bring();
+            assert_eq!(head.status_word() & (STATUS_IN_WINDOW_1 | STATUS_STATIC), STATUS_IN_WINDOW_1);
+        }
+    }
+
+    /// A telegram that was begun before is answered: 1F ^ 35 = 2A.
+    #[test]
+    fn an_older_head_is_brought_over_amid_a_telegram() {
+        let read = [0x00, 0x1F, 0x35, 0, 0, 0, 0, 0, 0, 0x2A];
+        for (key_enable, start) in OLDER {
+            let mut head = Head::factory(4_711);
+            head.make_older(key_enable, start);
+            assert!(read[..9].iter().all(|&byte| head.byte(7, byte).is_none()));
+            head.bring();
+            assert_eq!(head.byte(17, read[9]), Some(read));
+        }
+    }
+
+    /// Up that was held is not newly pressed afterwards, and does not adopt what is offered then.
+    #[test]
+    fn an_older_head_that_is_brought_over_keeps_its_keys() {
+        let mut head = Head::factory(4_711);
+        head.set_keys(KEY_UP);
+        head.make_older(1, Some(0));
+        head.bring();
+        assert_eq!(head.status_word(), 0x8000);
+        obey(&mut head, rows::AUTO_ID, 0, 5);
+        assert_eq!(head.set_keys(KEY_UP), None);
+        head.set_keys(0);
+        assert!(head.set_keys(KEY_UP).is_some());
+    }
+
+    /// In the alpha-numeric display it is no step: the set points stay valid, and characters in bit 9.
+    #[test]
+    fn an_older_head_is_brought_over_in_the_display() {
+        for (key_enable, start) in OLDER {
+            let mut head = Head::factory(4_711);
+            obey(&mut head, rows::OPERATING_MODE, 0, 3);
+            obey(&mut head, rows::SET_POINT_1, CONTROL_SET_POINT_1_VALID | CONTROL_CHARACTERS, 7);
+            head.make_older(key_enable, start);
+            head.bring();
+            assert_eq!(head.status_word(), 0x0204);
+        }
+    }
+
+    /// It is open to a locked head as to any other, and neither a new number nor the baud rate comes into force by it.
+    #[test]
+    fn an_older_head_is_brought_over_locked_and_not_restarted() {
+        let mut head = Head::factory(4_711);
+        obey(&mut head, rows::NODE_ADDRESS, 0, 12);
+        obey(&mut head, rows::BAUD_RATE, 0, 2);
+        obey(&mut head, rows::PROGRAMMING_CONFIGURATION, 0, 1);
+        head.make_older(1, Some(0));
+        head.bring();
+        assert!(head.is_locked() && !head.is_older());
+        assert_eq!((head.number_in_force(), head.baud_in_force()), (31, 1));
+    }
+
+    #[test]
+    fn a_head_that_is_not_older_stays_as_it_is() {
+        for mut head in [Head::factory(4_711), Head::new(12, 0), with_a_past()] {
+            let before = everything(&head);
+            assert!(!head.is_older());
+            head.bring();
+            head.bring();
+            assert_eq!(everything(&head), before);
+        }
+    }
 
     #[test]
     fn halves_round_away_from_zero() {

@@ -1,5 +1,5 @@
 //! A line of SIKONETZ5 heads, the master that asks them and the sheet on which their settings travel, written from
-//! document 01, requests (i) to (iii), (vi), (vii) and (ix) to (xi) of document 02 and the AP05 manual in ordinary
+//! document 01, requests (i) to (iii), (vi), (vii) and (ix) to (xii) of document 02 and the AP05 manual in ordinary
 //! mutable style, and the check of an order form.
 //! DECISIONS.md lists the points that the documents leave open and what is done about each.
 

@@ -173,11 +173,88 @@ impl Line {
         self.head(head)?.load(sheet)
     }
 
+    /// Brings one older head over. What the other heads are has no say: they are brought over one after another.
+    pub fn bring(&mut self, head: u32) -> Result<(), Refusal> {
+        self.head(head)?.bring();
+        Ok(())
+    }
+
     fn head_as_it_is(&self, number: u32) -> Result<&Head, Refusal> {
         self.heads.get(number as usize).ok_or(Refusal::HeadNumber)
     }
 
     fn head(&mut self, number: u32) -> Result<&mut Head, Refusal> {
         self.heads.get_mut(number as usize).ok_or(Refusal::HeadNumber)
+    }
+}
+
+#[cfg(test)]
+mod tests {
+    use super::*;
+
+    /// Three heads, of which the first two are older ones: 35h at 1, and in the first incremental on since 900.
+    fn with_older_heads() -> Line {
+        let mut line = Line::new();
+        for (node, serial) in [(31, 1), (12, 2), (5, 3)] {
+            line.grow(node, serial).unwrap();
+            line.measure(serial - 1, 1_000).unwrap();
+        }
+        line.heads[0].make_older(1, Some(900));
+        line.heads[1].make_older(1, None);
+        line
+    }
+
+    fn older(line: &Line) -> Vec<bool> {
+        line.heads.iter().map(Head::is_older).collect()
+    }
+
+    fn everything(line: &Line) -> String {
+        format!("{line:?}")
+    }
+
+    /// In either order; the one that is still an older head refuses neither call.
+    #[test]
+    fn older_heads_are_brought_over_one_after_another() {
+        for (order, between) in [([0, 1], [false, true, false]), ([1, 0], [true, false, false])] {
+            let mut line = with_older_heads();
+            assert_eq!(older(&line), [true, true, false]);
+            assert_eq!(line.bring(order[0]), Ok(()));
+            assert_eq!(older(&line), between);
+            assert_eq!(line.bring(order[1]), Ok(()));
+            assert_eq!(older(&line), [false, false, false]);
+            assert!(line.heads.iter().all(|head| head.position() == 1_000 && head.value(0x35) == 0));
+        }
+    }
+
+    /// Beside two older heads one that is none is as good as any, and nothing changes.
+    #[test]
+    fn a_head_beside_older_ones_stays_as_it_is() {
+        let mut line = with_older_heads();
+        let before = everything(&line);
+        assert_eq!(line.bring(2), Ok(()));
+        assert_eq!(everything(&line), before);
+    }
+
+    #[test]
+    fn past_the_count_the_call_is_refused_3_and_changes_nothing() {
+        let mut line = with_older_heads();
+        let before = everything(&line);
+        for head in [3, 32, 256, 65_536, u32::MAX] {
+            assert_eq!(line.bring(head), Err(Refusal::HeadNumber), "{head}");
+        }
+        assert_eq!(everything(&line), before);
+        assert_eq!(Line::new().bring(0), Err(Refusal::HeadNumber));
+    }
+
+    /// The others are as they were.
+    #[test]
+    fn one_head_alone_is_brought_over() {
+        let mut line = with_older_heads();
+        let before: Vec<String> = line.heads.iter().map(|head| format!("{head:?}")).collect();
+        line.bring(0).unwrap();
+        let after: Vec<String> = line.heads.iter().map(|head| format!("{head:?}")).collect();
+        assert_ne!(after[0], before[0]);
+        assert_eq!(after[1..], before[1..]);
+        assert_eq!(line.serial(0), Ok(1));
     }
 }

@@ -17,6 +17,7 @@ pub const OPERATING_MODE: u8 = 0x28;
 pub const TARGET_WINDOW_2: u8 = 0x31;
 pub const DIVISOR_APPLICATION: u8 = 0x33;
 pub const DIFFERENTIAL_FORMATION: u8 = 0x34;
+/// Still an address, though incremental measurement is retired: it knows 0 alone.
 pub const INCREMENTAL_KEY_ENABLE: u8 = 0x35;
 pub const ACKNOWLEDGEMENT_SETTINGS: u8 = 0x3E;
 pub const RESPONSE_DELAY: u8 = 0xD0;
@@ -92,7 +93,7 @@ pub const ROWS: [Row; ROW_COUNT] = [
     row(0x32, 0, 1, 0),
     row(0x33, 0, 2, 0),
     row(0x34, 0, 1, 0),
-    row(0x35, 0, 1, 1),
+    row(0x35, 0, 0, 0),
     row(0x39, 0, 1, 1),
     row(0x3A, 0, 1, 0),
     row(0x3B, 0, 1, 1),

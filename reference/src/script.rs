@@ -33,6 +33,8 @@ line, words separated by blanks or tabs, one line of output for each.
   xor HEAD             which bits were hit in the last damaged telegram heard
   save HEAD            write a head's settings on a sheet
   load HEAD [HEX]      load this sheet into a head; without HEX it has no byte
+  bring HEAD           bring over a head from before incremental measurement was
+                       retired: 35h 0, absolute position; others do not change
   space SIZE           how much space bytes, keys, save and rack lend, 0 to
                        1024; 10 at first
 
@@ -78,6 +80,7 @@ pub enum Command {
     Xor { head: u32 },
     Save { head: u32 },
     Load { head: u32, sheet: Vec<u8> },
+    Bring { head: u32 },
     Space { size: usize },
 }
 
@@ -124,6 +127,7 @@ fn command(words: &[&[u8]]) -> Option<Command> {
         [b"save", head] => Some(Command::Save { head: unsigned(head)? }),
         [b"load", head] => Some(Command::Load { head: unsigned(head)?, sheet: Vec::new() }),
         [b"load", head, hex] => Some(Command::Load { head: unsigned(head)?, sheet: bytes(hex)? }),
+        [b"bring", head] => Some(Command::Bring { head: unsigned(head)? }),
         [b"space", size] => {
             let size = unsigned(size)? as usize;
             (size <= LARGEST_SPACE).then_some(Command::Space { size })
@@ -240,6 +244,7 @@ impl Simulation {
             Command::Xor { head } => return self.xor(head),
             Command::Save { head } => return self.save(head),
             Command::Load { head, sheet } => self.line.load(head, &sheet),
+            Command::Bring { head } => self.line.bring(head),
             Command::Space { size } => {
                 self.space = size;
                 Ok(())
@@ -393,7 +398,7 @@ mod tests {
             control_word,
             data,
         };
-        let commands: [(&[u8], Command); 23] = [
+        let commands: [(&[u8], Command); 26] = [
             (b"head 31 4711", Command::Head { node: 31, serial: 4_711 }),
             (b"head 0 4294967295", Command::Head { node: 0, serial: u32::MAX }),
             (b" head\t4294967295  0000000000000\r", Command::Head { node: u32::MAX, serial: 0 }),
@@ -420,6 +425,9 @@ mod tests {
             (b"load 000 0104aF", Command::Load { head: 0, sheet: vec![0x01, 0x04, 0xAF] }),
             (b"load 7 00\r", Command::Load { head: 7, sheet: vec![0x00] }),
             (b"load 4294967295", Command::Load { head: u32::MAX, sheet: Vec::new() }),
+            (b"bring 0", Command::Bring { head: 0 }),
+            (b" bring\t0000000000031 ", Command::Bring { head: 31 }),
+            (b"bring 4294967295\r", Command::Bring { head: u32::MAX }),
             (b"space 64\r", Command::Space { size: 64 }),
             (b"space 1024", Command::Space { size: 1_024 }),
             (b"measure 0 -0", Command::Measure { head: 0, value: 0 }),
@@ -458,6 +466,8 @@ mod tests {
             save|save 0 0|save 0 00|save -0|save +0|save x|save 4294967296|SAVE 0|saved 0|save0|save 0#|\
             load|load 0 0|load 0 000|load 0 0G|load 0 00 00|load 0 0x00|load 0 #|load -0 00|load -0|load 00 -0|\
             load 4294967296|load 4294967296 00|load x 00|LOAD 0|loads 0 00|load0 00|\
+            bring|bring 0 0|bring 0 #|bring -0|bring +0|bring -1|bring x|bring 0x0|bring 1F|bring 0#|bring 4294967296|\
+            bring 18446744073709551616|BRING 0|brings 0|bring0|bring\x0B0|\
             space 1025|space 4294967295|space 65536|space -1|space|space 10 10|\
             head 1 2\r\r|head\x0B1 2|head 1\x0B2|\xFF\x00";
         for line in lines.split(|&byte| byte == b'|') {

@@ -52,18 +52,26 @@ impl Iterator for Reader<'_> {
     }
 }
 
-/// The rows of a sheet that can be loaded. Each refusal is looked for in all rows before the next one is.
-pub fn loadable(sheet: &[u8]) -> Result<Reader<'_>, Refusal> {
-    let reader = Reader::new(sheet)?;
+/// What a sheet that can be loaded stores. Each refusal is looked for in all rows before the next one is.
+pub fn loadable(sheet: &[u8]) -> Result<impl Iterator<Item = Setting> + '_, Refusal> {
+    let settings = Reader::new(sheet)?.map(as_of_today);
     let is_stored = |setting: Setting| rows::place(setting.address).is_some();
     let is_in_range = |setting: Setting| rows::check_value(setting.address, setting.value).is_ok();
-    if !reader.clone().all(is_stored) {
+    if !settings.clone().all(is_stored) {
         return Err(Refusal::SheetAddress);
     }
-    if !reader.clone().all(is_in_range) {
+    if !settings.clone().all(is_in_range) {
         return Err(Refusal::SheetValue);
     }
-    Ok(reader)
+    Ok(settings)
+}
+
+/// Sheets from before incremental measurement was retired have 35h at 0 or 1, and are to be of use still.
+fn as_of_today(setting: Setting) -> Setting {
+    match setting {
+        Setting { address: rows::INCREMENTAL_KEY_ENABLE, value: 1 } => Setting { value: 0, ..setting },
+        _ => setting,
+    }
 }
 
 /// The sheet of these rows, which the caller has in rising order of their addresses and at most 39 of.

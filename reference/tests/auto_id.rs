@@ -41,10 +41,10 @@ fn assert_offer(desk: &mut Desk, reason: &str) {
     assert_eq!(desk.send(READ_00H_AT_5), STORED_5, "{reason}");
 }
 
-/// That the only head has none: up, bit 15, switches incremental, bit 9, and it stays at 31.
+/// That the only head has none: up is bit 15 and no more, and it stays at 31.
 fn assert_no_offer(desk: &mut Desk, reason: &str) {
     assert_eq!(desk.line("keys 0 4"), "ok", "{reason}");
-    assert_eq!(desk.status(), 0x8200, "{reason}");
+    assert_eq!(desk.status(), 0x8000, "{reason}");
 }
 
 // The story.
@@ -79,7 +79,8 @@ fn the_other_heads_keep_their_offers() {
     assert_eq!(desk.line("keys 1 4"), "ok");
     assert_eq!(desk.line("keys 2 4"), ADOPTED_5);
     assert_eq!(desk.send(READ_00H_AT_5), "collision 2");
-    assert_eq!(desk.send(READ_00H_AT_31), "001F0082000000001F82");
+    // Up is held, bit 15.
+    assert_eq!(desk.send(READ_00H_AT_31), "001F0080000000001F80");
 }
 
 /// A key is its own head's: up at a head that has no offer adopts no other's.
@@ -309,8 +310,8 @@ fn a_head_that_is_not_at_31_refuses() {
     assert_eq!(desk.send("00059600000000000093"), "00059600000000000596");
     assert_eq!(desk.send("00059600000500000096"), "00059600000500008513");
     assert_eq!(desk.line("keys 0 4"), "ok");
-    // Up and incremental, 82 ^ 00.
-    assert_eq!(desk.send(READ_00H_AT_5), "00050082000000000582");
+    // Up alone, 80 ^ 00.
+    assert_eq!(desk.send(READ_00H_AT_5), "00050080000000000580");
 }
 
 /// 00 85 is not given to a broadcast, nor to another node, nor where an earlier check applies.
@@ -424,8 +425,8 @@ fn up_has_to_be_newly_pressed() {
     for state in [4, 6, 4, 0] {
         desk.ok(&format!("keys 0 {state}"));
     }
-    // Incremental was switched on by the first: bit 9, C9 ^ 02.
-    assert_eq!(desk.line("keys 0 4"), "ok 011FD2020000000005CB");
+    // The first left nothing, as up without an offer does nothing.
+    assert_eq!(desk.line("keys 0 4"), ADOPTED_5);
 }
 
 /// Alone or with others, newly pressed or held.
@@ -441,40 +442,20 @@ fn up_adopts_with_other_keys_too() {
     assert_eq!(desk.line("keys 0 7"), "ok 011FD2600000000005A9");
 }
 
-/// 35h enables the switching of incremental, not the adoption.
+/// Request (xii): without an offer it does nothing, before one and after the adoption, at 31 and at any other number.
 #[test]
-fn up_adopts_whatever_35h_says() {
-    let mut desk = with_offer(&[31]);
-    desk.write(0x35, 0);
-    assert_offer(&mut desk, "35h 0");
-    // Without an offer up does nothing then: bit 15 alone, 80 ^ 00.
+fn without_an_offer_up_does_nothing() {
+    let mut desk = Desk::with_heads(&[31]);
+    desk.ok("measure 0 40");
+    assert_no_offer(&mut desk, "none was made");
+    assert_eq!(desk.read(0xFE), 40);
+    desk.ok("keys 0 0");
+    assert_eq!(desk.send(OFFER_OF_5), "");
+    assert_offer(&mut desk, "after the first stroke");
     desk.ok("keys 0 4");
+    // Bit 15 alone, 80 ^ 00; FEh is 40, 05 ^ FE ^ 80 ^ 28.
     assert_eq!(desk.send(READ_00H_AT_5), "00050080000000000580");
-}
-
-/// "It does not switch incremental": neither on, nor is it on afterwards if it was before, as the head restarts.
-#[test]
-fn an_adoption_does_not_switch_incremental() {
-    for is_on in [false, true] {
-        let mut desk = Desk::with_heads(&[31]);
-        if is_on {
-            desk.ok("keys 0 4");
-            desk.ok("keys 0 0");
-        }
-        assert_eq!(desk.send(OFFER_OF_5), "");
-        let reply = if is_on { "ok 011FD2020000000005CB" } else { ADOPTED_5 };
-        assert_eq!(desk.line("keys 0 4"), reply);
-        assert_eq!(desk.send(READ_00H_AT_5), STORED_5);
-    }
-}
-
-/// Without an offer it switches incremental as before, at 31 and at any other number.
-#[test]
-fn without_an_offer_up_switches_incremental() {
-    assert_no_offer(&mut Desk::with_heads(&[31]), "none was made");
-    let mut desk = Desk::with_heads(&[5]);
-    desk.ok("keys 0 4");
-    assert_eq!(desk.send(READ_00H_AT_5), "00050082000000000582");
+    assert_eq!(desk.send("0005FE000000000000FB"), "0005FE80000000002853");
 }
 
 /// "The status word before the call": before the new key state, of which the reply shows nothing.
@@ -528,9 +509,9 @@ fn left_may_have_nothing_to_do() {
 fn keys_are_0_after_the_adoption() {
     let mut desk = with_offer(&[31]);
     assert_offer(&mut desk, "first");
-    // No reply, there is no offer; but incremental is on now, 82 ^ 00.
+    // No reply, there is no offer; bit 15, 80 ^ 00.
     desk.ok("keys 0 4");
-    assert_eq!(desk.send(READ_00H_AT_5), "00050082000000000582");
+    assert_eq!(desk.send(READ_00H_AT_5), "00050080000000000580");
 }
 
 /// "Stores the number": it is there after the next restart, too.

@@ -50,6 +50,11 @@ fn the_racks() {
 }
 
 #[test]
+fn what_is_retired() {
+    assert_answers(include_bytes!("../../tests/retired.script"), include_str!("../../tests/retired.answers"));
+}
+
+#[test]
 fn the_cases_of_bench() {
     let bytes = include_bytes!("../../crates/bench/stdin");
     let mut head = Head::factory(4_711);

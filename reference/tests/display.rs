@@ -206,9 +206,9 @@ fn other_words_do_not_change_bit_9() {
     assert_eq!(desk.status(), 0);
 }
 
-/// Incremental has no bit here; it has it back outside, where bit 7 has none.
+/// "Status bit 9 stays 0 outside mode 3", and up has no part in it in the mode either.
 #[test]
-fn bit_9_does_not_show_incremental() {
+fn up_does_not_change_bit_9() {
     let mut desk = in_the_display();
     press(&mut desk, 4);
     assert_eq!(desk.status(), 0);
@@ -218,10 +218,11 @@ fn bit_9_does_not_show_incremental() {
     desk.write(0x28, 0);
     assert_eq!(desk.status(), 0);
     press(&mut desk, 4);
-    desk.write_with(0xFB, 0, 7);
-    assert_eq!(desk.status(), 0x0200);
-    desk.write(0x28, 3);
     assert_eq!(desk.status(), 0);
+    desk.write_with(0xFB, CHARACTERS, 7);
+    assert_eq!(desk.status(), 0);
+    desk.write(0x28, 3);
+    assert_eq!(desk.status(), 0x0200);
 }
 
 // "Status bits 0, 1, 4 and 6 are 0."
@@ -248,7 +249,6 @@ fn all_bits_that_there_are() {
     let mut desk = in_the_display();
     write_both(&mut desk, CHARACTERS | ACKNOWLEDGE_1 | ACKNOWLEDGE_2);
     desk.write(0xAA, 1);
-    desk.write(0x35, 0);
     desk.ok("keys 0 7");
     raise_error(&mut desk);
     assert_eq!(desk.status(), 0xE7AC);
@@ -638,15 +638,15 @@ fn left_and_star_at_once_with_3eh_0() {
     assert_eq!(desk.status(), 0x0404);
 }
 
-/// Up has no part in it, and switches incremental as ever: the position begins at 0.
+/// Up has no part in it, and does nothing else: the position stays.
 #[test]
 fn up_acknowledges_nothing() {
     let mut desk = with_set_points();
     desk.write(0x3E, 2);
     desk.ok("measure 0 50");
     press(&mut desk, 4);
-    assert_eq!((desk.status(), desk.read(0xFE)), (0x0404, 0));
-    // All three: left the set points, so no calibration, and up back to 50.
+    assert_eq!((desk.status(), desk.read(0xFE)), (0x0404, 50));
+    // All three: left the set points, so no calibration.
     press(&mut desk, 7);
     assert_eq!((desk.status(), desk.read(0xFE)), (0x042C, 50));
 }
@@ -865,8 +865,7 @@ fn the_taken_word_survives_the_step() {
     }
 }
 
-/// A pending error, a kept value, incremental and keys: 4180 in the mode and 4380 outside, where incremental has its
-/// bit. The kept value is 5, and the position 20 since incremental was switched on at 5.
+/// A pending error, a kept value and keys: 4180 in the mode and outside. The kept value is 5, and the position 25.
 #[test]
 fn all_else_survives_the_step() {
     let mut desk = Desk::with_heads(&[31]);
@@ -876,12 +875,11 @@ fn all_else_survives_the_step() {
     desk.ok("keys 0 2");
     raise_error(&mut desk);
     desk.ok("measure 0 25");
-    for (mode, word) in [(3, 0x4180), (1, 0x4380), (3, 0x4180), (0, 0x4380)] {
+    for mode in [3, 1, 3, 0, 3] {
         desk.write(0x28, mode);
-        assert_eq!(desk.status(), word, "{mode}");
+        assert_eq!(desk.status(), 0x4180, "{mode}");
     }
-    desk.write(0x28, 3);
-    assert_eq!((desk.read(0xFE), desk.read(0xFE), desk.read(0xFD)), (5, 20, 0x80));
+    assert_eq!((desk.read(0xFE), desk.read(0xFE), desk.read(0xFD)), (5, 25, 0x80));
 }
 
 /// A number on offer is adopted in the mode too: 01 ^ 1F ^ D2 ^ 05 = C9, and with bits 10 and 2 in its word 01 ^ 1F ^

@@ -40,7 +40,9 @@ fn refusal_17_serial_goes_after_1() {
 #[test]
 fn refusal_3_head_number_goes_before_4_and_5() {
     let mut desk = Desk::with_heads(&[31]);
-    for line in ["measure 1 0", "measure 1 3000000", "keys 1 0", "keys 4294967295 9", "power 1", "xor 1"] {
+    for line in
+        ["measure 1 0", "measure 1 3000000", "keys 1 0", "keys 4294967295 9", "power 1", "xor 1", "bring 1"]
+    {
         assert_eq!(desk.line(line), "refused 3", "{line}");
     }
 }

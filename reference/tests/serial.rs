@@ -203,7 +203,7 @@ fn calls_name_the_last_of_32() {
     // The first body: 32 is 20h.
     assert_eq!(&sheet[2 * 118..2 * 122], "00000020");
     desk.ok(&format!("load 31 {NUMBER_5}"));
-    for line in ["measure 32 0", "keys 32 0", "xor 32", "power 32", "save 32", "load 32 00"] {
+    for line in ["measure 32 0", "keys 32 0", "xor 32", "power 32", "save 32", "load 32 00", "bring 32"] {
         assert_eq!(desk.line(line), "refused 3", "{line}");
     }
 }

@@ -1,7 +1,7 @@
 //! Request (iii): which status word a reply carries. Writes of FBh and FFh keep the word from before them, and
 //! so do the read of FAh, A0h 9 and the reply of Auto-ID; every other reply has the word after its effects. All
 //! words are worked out by hand: 10 set point 2 valid, 2 set point 1 valid, 5 in the window 20h, 3 within 31h,
-//! 6 above, 0 and 1 where to turn, 4 static, 7 error, 8 frozen, 9 incremental, 13 to 15 keys.
+//! 6 above, 0 and 1 where to turn, 4 static, 7 error, 8 frozen, 13 to 15 keys; 9 is 0.
 
 mod common;
 use common::{code_of, Desk, READ, WRITE};
@@ -495,20 +495,20 @@ fn a_refused_offer_shows_the_word_as_it_is() {
 
 // "After A0h 9 it is the word before the restart; the Auto-ID reply keeps its own rule."
 
-/// Star and up are down, incremental is on and at 0, so that S 0 is reached, frozen, an error pending, both set
-/// points valid, static: C000 | 0400 | 0200 | 0100 | 0080 | 0020 | 0010 | 0008 | 0004.
+/// Star and up are down, S 80 is reached, frozen, an error pending, both set points valid, static: C000 | 0400 |
+/// 0100 | 0080 | 0020 | 0010 | 0008 | 0004.
 #[test]
 fn a0h_9_shows_the_word_before_the_restart() {
     let mut desk = Desk::with_heads(&[31]);
     desk.ok("measure 0 80");
     desk.ok("keys 0 6");
-    desk.write_with(0xFF, SET_POINT_2_VALID, 0);
+    desk.write_with(0xFF, SET_POINT_2_VALID, 80);
     desk.write_with(0xFB, SET_POINT_1_VALID, 7);
     desk.write(0xAA, 1);
     raise_error(&mut desk);
-    assert_eq!(desk.status(), 0xC7BC);
-    // 01 ^ 1F ^ A0 ^ C7 ^ BC ^ 09 = CC.
-    assert_eq!(desk.send("011FA0000000000009B7"), "011FA0C7BC00000009CC");
+    assert_eq!(desk.status(), 0xC5BC);
+    // 01 ^ 1F ^ A0 ^ C5 ^ BC ^ 09 = CE.
+    assert_eq!(desk.send("011FA0000000000009B7"), "011FA0C5BC00000009CE");
     assert_eq!(desk.send("001FFA000000000000E5"), "001FFA000000000000E5");
     assert_eq!(desk.read(0xFE), 80);
 }
@@ -524,13 +524,7 @@ fn a0h_9_shows_each_bit_that_the_restart_clears() {
         (|desk| desk.write(0xAA, 1), 0x0100),
         (|desk| drop(desk.write_with(0xFB, SET_POINT_1_VALID, 7)), 0x0004),
         (|desk| drop(desk.write_with(0xFF, SET_POINT_2_VALID, -9)), 0x0442),
-        (
-            |desk| {
-                desk.ok("keys 0 4");
-                desk.ok("keys 0 0");
-            },
-            0x0200,
-        ),
+        (|desk| desk.ok("keys 0 4"), 0x8000),
     ];
     for (prepare, word) in preparations {
         let mut desk = Desk::with_heads(&[31]);

@@ -7,7 +7,7 @@ use mathlib.Core.Bool.{Bool, true, false, cond, not, _&&_, _||_, or-false, true�
 use mathlib.Core.List.{List, [], _∷_}
 use borrow.Author.Tests.{eqb-true, le-leb, le-ltb}
 use lib.Dec.{eqb}
-use lib.IntN.{ℤ, pos}
+use lib.IntN.{ℤ}
 use lib.ListN.{length, drop, length-append, length-drop}
 use lib.Seq.{getD-set-same, getD-set-other, take-at, drop-at}
 use Rattle.wire.specs.declared.telegram.Telegram.{Telegram}
@@ -16,17 +16,17 @@ use Rattle.wire.proofs.Laws.{built-fields}
 use Rattle.rows.specs.Table.{rows}
 use Rattle.rows.specs.Ranges.{allRightOf}
 use Rattle.state.specs.declared.parts.Head.{Head}
-use Rattle.state.specs.declared.parts.Faults.{Faults}
 use Rattle.state.specs.declared.parts.Targets.{Targets}
-use Rattle.state.specs.Settings.{calibrationKeyPlace, calibrationPlace, incrementalKeyPlace}
+use Rattle.state.specs.Settings.{calibrationKeyPlace, calibrationPlace}
 use Rattle.state.specs.Mode.{isDisplay}
 use Rattle.state.specs.Errors.{emptyList}
 use Rattle.state.specs.Status.{aimedOf, statusOf, withinOf}
 use Rattle.state.specs.Wellformed.{inReachOf, wellformedOf}
+use Rattle.state.specs.Older.{olderFits}
 use Rattle.state.proofs.Laws.{within-bit, status-fits, told, stored-told, offer-told}
 use Rattle.effects.specs.Stored.{adoptedStored, restartedStored}
 use Rattle.effects.specs.Faults.{raisedOf, restartedFaults}
-use Rattle.effects.specs.Measured.{calibratedOf, switchedOf, movedOf, restartedMeasurement}
+use Rattle.effects.specs.Measured.{calibratedOf, movedOf, restartedMeasurement}
 use Rattle.effects.specs.Aimed.{noTargets, settledOf, lackingOf, allGivenOf}
 use Rattle.effects.specs.Restart.{emptyEar, stopped, restartedOf, withStored, adoptedOf, freshOf}
 use Rattle.reply.specs.Reply.{adoptionOf}
@@ -35,12 +35,13 @@ use Rattle.head.specs.declared.calls.Answer.the-variants as answer
 use Rattle.head.specs.declared.calls.Called.{Called}
 use Rattle.head.specs.declared.calls.Heard.the-variants as heard
 use Rattle.head.specs.Hear.{elapsedOf}
-use Rattle.head.specs.Moves.{overdueOf, tickedOf, measuredOf, upKey, pressedOf, leftOf, starOf, upOf, starTaken, keyedOf, withKeys, withTargets}
+use Rattle.head.specs.Moves.{overdueOf, tickedOf, measuredOf, pressedOf, leftOf, starOf, starTaken, keyedOf, withKeys, withTargets}
 use Rattle.head.specs.Outcome as alone
-use Rattle.head.specs.Calls.{nodeFits, madeOf, laidOn, fedWith, spaceWith, tickOf, measureOf, keysOf, keysSpaceOf, powerOf}
+use Rattle.head.specs.Calls.{nodeFits, madeOf, laidOn, fedWith, spaceWith, tickOf, measureOf, keysOf, keysSpaceOf, powerOf, bringOf}
 use Rattle.head.proofs.Passes.{unanswered}
 use Rattle.demands.specs.Past.{since}
-use Rattle.demands.specs.Alone.{Taken, overdue, newly, adopts, setting, displays, lacks, leftGives, starGives, Restarted, Ticked, Measured, Keyed, Adopted, Announces, Announced, New}
+use Rattle.demands.specs.Alone.{Taken, overdue, newly, adopts, setting, displays, lacks, leftGives, starGives, Restarted, Ticked, Measured, Keyed, Adopted, Announces, Announced, Brought, New}
+use Rattle.demands.proofs.Older.{brought}
 use Rattle.demands.proofs.Sim.{fresh-values}
 
 pub restarted : (h : Head) → Restarted h (restartedOf h)
@@ -61,7 +62,7 @@ unfolding measuredOf movedOf settledOf withinOf aimedOf isDisplay
 measured h m =
     record { m = refl; reached = ap (λ (b : Bool). h .targets .reached || b) (within-bit (measuredOf h m)); zero = refl; adopted = refl; incremental = refl; start = refl; frozen = refl; kept = refl; first = refl; valid1 = refl; second = refl; valid2 = refl; word = refl; acknowledged1 = refl; acknowledged2 = refl; stored = refl; faults = refl; monitor = refl; ear = refl; keys = refl }
 
--- ---- a key state: what left does, then star, then up
+-- ---- a key state: what left does, then star
 abbrev Left : Bool → Head → Head → Type 0
 Left on x y =
     let giving = on && (eqb (x .faults .pending) 0 && lacks x) in
@@ -110,32 +111,6 @@ star on x = go (on && (displays x && eqb (setting x 35) 2)) refl
     go true e = rw e (refl, refl)
     go false e = rw e (refl, refl)
 
-abbrev Up : Bool → Head → Head → Type 0
-Up on x y =
-    (y .measurement .incremental ≡ cond on (not (x .measurement .incremental)) (x .measurement .incremental))
-    × (y .measurement .start ≡ cond on (cond (x .measurement .incremental) (pos 0) (x .measurement .m)) (x .measurement .start))
-    × (y .measurement .zero ≡ x .measurement .zero)
-    × (y .measurement .adopted ≡ x .measurement .adopted)
-    × (y .measurement .m ≡ x .measurement .m)
-    × (y .measurement .frozen ≡ x .measurement .frozen)
-    × (y .measurement .kept ≡ x .measurement .kept)
-    × (y .faults ≡ x .faults)
-    × (y .stored ≡ x .stored)
-    × (y .targets ≡ x .targets)
-    × (y .monitor ≡ x .monitor)
-    × (y .ear ≡ x .ear)
-    × (y .keys ≡ x .keys)
-
-up : (on : Bool) (x : Head) → Up (on && eqb (setting x incrementalKeyPlace) 1) x (upOf on x)
-unfolding upOf switchedOf
-up on x = go (on && eqb (setting x incrementalKeyPlace) 1) refl (x .measurement .incremental) refl
-  where
-    go : (b : Bool) → (on && eqb (setting x incrementalKeyPlace) 1) ≡ b → (i : Bool) → x .measurement .incremental ≡ i
-        → Up (on && eqb (setting x incrementalKeyPlace) 1) x (upOf on x)
-    go false e i f = rw e (refl, refl, refl, refl, refl, refl, refl, refl, refl, refl, refl, refl, refl)
-    go true e true f = rw (e, f) (refl, refl, refl, refl, refl, refl, refl, refl, refl, refl, refl, refl, refl)
-    go true e false f = rw (e, f) (refl, refl, refl, refl, refl, refl, refl, refl, refl, refl, refl, refl, refl)
-
 -- what is acknowledged by left, and then by star
 twice : (a b : Bool) (t : Targets) → let g = cond b (allGivenOf (cond a (allGivenOf t) t)) (cond a (allGivenOf t) t) in
     (g .acknowledged1 ≡ (t .acknowledged1 || ((a || b) && t .valid1)))
@@ -175,29 +150,28 @@ module _ (h : Head) (s : ℕ) where
   targets-told = star-told .0 ∙ rw (left-told .12, left-told .13)
 
 -- of a key state that adopts no number
-pub keyed : (h : Head) (s : ℕ) → Keyed h (upOf (pressedOf s (h .keys) upKey) (starTaken h s)) s
+pub keyed : (h : Head) (s : ℕ) → Keyed h (starTaken h s) s
 unfolding pressedOf
 keyed h s =
     let l = left-told h s in
     let k = star-told h s .1 in
-    let u = up (newly 4 h s) (starred h s) in
     let g = twice (leftGives h s) (starGives h s) (h .targets) in
-    let t : upOf (newly 4 h s) (starred h s) .targets ≡ _ = u .9 ∙ targets-told h s in
+    let t = targets-told h s in
     record {
-      keys = u .12 ∙ ap (λ (x : Head). x .keys) k ∙ l .16;
-      pending = ap (λ (f : Faults). f .pending) (u .7) ∙ ap (λ (x : Head). x .faults .pending) k ∙ l .0;
-      zero = u .2 ∙ ap (λ (x : Head). x .measurement .zero) k ∙ l .1;
-      adopted = u .3 ∙ ap (λ (x : Head). x .measurement .adopted) k ∙ l .2;
-      incremental = u .0 ∙ rw (ap (λ (x : Head). x .stored) k, ap (λ (x : Head). x .measurement) k, l .12, l .3);
-      start = u .1 ∙ rw (ap (λ (x : Head). x .stored) k, ap (λ (x : Head). x .measurement) k, l .12, l .3, l .5, l .4);
-      m = u .4 ∙ ap (λ (x : Head). x .measurement .m) k ∙ l .5;
-      frozen = u .5 ∙ ap (λ (x : Head). x .measurement .frozen) k ∙ l .6;
-      kept = u .6 ∙ ap (λ (x : Head). x .measurement .kept) k ∙ l .7;
-      memory = ap (λ (f : Faults). f .memory) (u .7) ∙ ap (λ (x : Head). x .faults .memory) k ∙ l .8;
-      inputs = ap (λ (f : Faults). f .inputs) (u .7) ∙ ap (λ (x : Head). x .faults .inputs) k ∙ l .9;
-      hit = ap (λ (f : Faults). f .hit) (u .7) ∙ ap (λ (x : Head). x .faults .hit) k ∙ l .10;
-      damaged = ap (λ (f : Faults). f .damaged) (u .7) ∙ ap (λ (x : Head). x .faults .damaged) k ∙ l .11;
-      stored = u .8 ∙ ap (λ (x : Head). x .stored) k ∙ l .12;
+      keys = ap (λ (x : Head). x .keys) k ∙ l .16;
+      pending = ap (λ (x : Head). x .faults .pending) k ∙ l .0;
+      zero = ap (λ (x : Head). x .measurement .zero) k ∙ l .1;
+      adopted = ap (λ (x : Head). x .measurement .adopted) k ∙ l .2;
+      incremental = ap (λ (x : Head). x .measurement .incremental) k ∙ l .3;
+      start = ap (λ (x : Head). x .measurement .start) k ∙ l .4;
+      m = ap (λ (x : Head). x .measurement .m) k ∙ l .5;
+      frozen = ap (λ (x : Head). x .measurement .frozen) k ∙ l .6;
+      kept = ap (λ (x : Head). x .measurement .kept) k ∙ l .7;
+      memory = ap (λ (x : Head). x .faults .memory) k ∙ l .8;
+      inputs = ap (λ (x : Head). x .faults .inputs) k ∙ l .9;
+      hit = ap (λ (x : Head). x .faults .hit) k ∙ l .10;
+      damaged = ap (λ (x : Head). x .faults .damaged) k ∙ l .11;
+      stored = ap (λ (x : Head). x .stored) k ∙ l .12;
       acknowledged1 = ap (λ (x : Targets). x .acknowledged1) t ∙ g .0;
       acknowledged2 = ap (λ (x : Targets). x .acknowledged2) t ∙ g .1;
       first = ap (λ (x : Targets). x .first) t ∙ g .2;
@@ -206,8 +180,8 @@ keyed h s =
       valid2 = ap (λ (x : Targets). x .valid2) t ∙ g .5;
       word = ap (λ (x : Targets). x .word) t ∙ g .6;
       reached = ap (λ (x : Targets). x .reached) t ∙ g .7;
-      monitor = u .10 ∙ ap (λ (x : Head). x .monitor) k ∙ l .14;
-      ear = u .11 ∙ ap (λ (x : Head). x .ear) k ∙ l .15;
+      monitor = ap (λ (x : Head). x .monitor) k ∙ l .14;
+      ear = ap (λ (x : Head). x .ear) k ∙ l .15;
     }
 
 -- of one that does: the number is stored, which the values have a place for
@@ -252,6 +226,10 @@ module _ (h : Head) where
   unfolding alone.called powerOf
   powers = taken (λ c. Restarted h (c .head)) (wellformedOf h) _ _ (λ e. cc) (λ _. restarted h)
 
+  pub brings : alone.called alone.bring h .answer ≡ answer.Done → Brought h (alone.called alone.bring h .head)
+  unfolding alone.called bringOf
+  brings = taken (λ c. Brought h (c .head)) (olderFits h) _ _ (λ e. cc) (λ _. brought h)
+
   pub ticks : (t : ℕ) → alone.called (alone.tick t) h .answer ≡ answer.Done → Ticked h (alone.called (alone.tick t) h .head) t
   unfolding alone.called tickOf
   ticks t = taken (λ c. Ticked h (c .head) t) (wellformedOf h) _ _ (λ e. cc) (λ _. ticked h t)
@@ -284,9 +262,9 @@ announced h space k =
     }
 
 -- the two ways of a key state
-keyed-up : (h : Head) (s : ℕ) → adopts h s ≡ false → keyedOf h s ≡ unanswered (upOf (pressedOf s (h .keys) upKey) (starTaken h s))
+keyed-plain : (h : Head) (s : ℕ) → adopts h s ≡ false → keyedOf h s ≡ unanswered (starTaken h s)
 unfolding keyedOf pressedOf
-keyed-up h s e = rw e
+keyed-plain h s e = rw e
 
 keyed-adopts : (h : Head) (s : ℕ) → adopts h s ≡ true
     → keyedOf h s ≡ record { head = adoptedOf (starTaken h s); replied = true; reply = adoptionOf (statusOf h) (h .stored .offer) }
@@ -303,7 +281,7 @@ module _ (h : Head) (s : ℕ) (space : List ℕ) (k : Taken h space) (few : s �
   pub presses : adopts h s ≡ false
       → Keyed h (keysOf h s (length space) .head) s × (keysOf h s (length space) .heard ≡ heard.Replies 0) × (keysSpaceOf h s space ≡ space)
   presses e =
-      rw (keys-taken .0, keys-taken .1, keyed-up h s e) (keyed h s, refl, refl)
+      rw (keys-taken .0, keys-taken .1, keyed-plain h s e) (keyed h s, refl, refl)
 
   pub adopting : adopts h s ≡ true
       → Adopted h (keysOf h s (length space) .head) s

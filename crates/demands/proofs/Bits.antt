@@ -10,7 +10,7 @@ use Rattle.state.specs.declared.parts.Head.{Head}
 use Rattle.state.specs.Settings.{window1Place, window2Place}
 use Rattle.state.specs.Bits.{bit, bitSet}
 use Rattle.state.specs.Mode.{isDisplay}
-use Rattle.state.specs.Status.{aimOf, aimBitsOf, acknowledgedBitsOf, restBitsOf, aimedOf, statusOf}
+use Rattle.state.specs.Status.{aimOf, aimBitsOf, displayBitsOf, restBitsOf, aimedOf, statusOf}
 use Rattle.state.proofs.Bits.{bit-most, bit-weighs}
 use Rattle.state.proofs.Laws.{status-fits}
 use Rattle.demands.specs.Alone.{displays}
@@ -74,7 +74,7 @@ module _ (h : Head) where
   on8 = h .measurement .frozen
 
   abbrev on9 : Bool
-  on9 = cond (displays h) (bitSet (h .targets .word) 7) (h .measurement .incremental)
+  on9 = displays h && bitSet (h .targets .word) 7
 
   abbrev on10 : Bool
   on10 = h .targets .valid2
@@ -87,12 +87,12 @@ module _ (h : Head) where
   weighed = bit 0 on0 + 2 * bit 0 on1 + 4 * bit 0 on2 + 8 * bit 0 on3 + 16 * bit 0 on4 + 32 * bit 0 on5 + 64 * bit 0 on6 + 128 * bit 0 on7 + 256 * bit 0 on8 + 512 * bit 0 on9 + 1024 * bit 0 on10 + 8192 * keys
 
   status-is : statusOf h ≡ weighed
-  unfolding statusOf aimBitsOf acknowledgedBitsOf restBitsOf aimedOf aimOf isDisplay
+  unfolding statusOf aimBitsOf displayBitsOf restBitsOf aimedOf aimOf isDisplay
   status-is = go (displays h) refl
     where
       go : (b : Bool) → displays h ≡ b → statusOf h ≡ weighed
       go true e = rw e (omega (arith, bit-weighs 2 on2, bit-weighs 3 (h .targets .acknowledged1), bit-weighs 5 (h .targets .acknowledged2), bit-weighs 7 on7, bit-weighs 8 on8, bit-weighs 9 (bitSet (h .targets .word) 7), bit-weighs 10 on10))
-      go false e = rw e (omega (arith, bit-weighs 1 (h .targets .valid2 && (not (near h window1Place) && not (onward h))), bit-weighs 2 on2, bit-weighs 3 (h .targets .valid2 && near h window2Place), bit-weighs 4 (h .targets .reached), bit-weighs 5 (h .targets .valid2 && near h window1Place), bit-weighs 6 (h .targets .valid2 && ltZ (aimed h) (actual h)), bit-weighs 7 on7, bit-weighs 8 on8, bit-weighs 9 (h .measurement .incremental), bit-weighs 10 on10))
+      go false e = rw e (omega (arith, bit-weighs 1 (h .targets .valid2 && (not (near h window1Place) && not (onward h))), bit-weighs 2 on2, bit-weighs 3 (h .targets .valid2 && near h window2Place), bit-weighs 4 (h .targets .reached), bit-weighs 5 (h .targets .valid2 && near h window1Place), bit-weighs 6 (h .targets .valid2 && ltZ (aimed h) (actual h)), bit-weighs 7 on7, bit-weighs 8 on8, bit-weighs 10 on10))
 
   pub bits : Bits h
   bits =

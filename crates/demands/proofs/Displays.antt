@@ -27,6 +27,7 @@ use Rattle.state.specs.Position.{viewOf}
 use Rattle.state.specs.Status.{statusOf, withinOf, differenceOf}
 use Rattle.state.specs.Edges as edges
 use Rattle.state.specs.Wellformed.{wellformedOf}
+use Rattle.state.specs.Older.{passesOf, broughtOf}
 use Rattle.effects.specs.Stored.{adoptedStored, restartedStored, storedBy}
 use Rattle.effects.specs.Aimed.{noTargets, settledOf, firstAimed, secondAimed, givenOf, clearedOf, staysOf, turnedOf, targetsBy}
 use Rattle.effects.proofs.Turns.{stays-same}
@@ -37,7 +38,7 @@ use Rattle.head.specs.declared.calls.Fed.{Fed}
 use Rattle.head.specs.declared.hear.Stepped.{Stepped}
 use Rattle.head.specs.declared.refusal.Refusal.the-variants.{Node, Malformed}
 use Rattle.head.specs.Hear.{gatheredOf, standingOf, restartsOf, affectedOf, toldOf, tellOf, withEar, stepOf}
-use Rattle.head.specs.Moves.{tickedOf, measuredOf, upKey, pressedOf, upOf, starTaken, adoptsOf, keyedOf}
+use Rattle.head.specs.Moves.{tickedOf, measuredOf, starTaken, adoptsOf, keyedOf}
 use Rattle.head.specs.Calls as head
 use Rattle.head.specs.Outcome as alone
 use Rattle.head.proofs.Asked.{called-is}
@@ -55,6 +56,7 @@ use Rattle.demands.proofs.Heads.{askedOf, keyedBy, headBy}
 use Rattle.demands.proofs.Ear.{heard-whole, heard-short}
 use Rattle.demands.proofs.Sim.{sim, seen, of-heads}
 use Rattle.demands.proofs.Alone.{ticked, keyed}
+use Rattle.demands.proofs.Older.{brought}
 use Rattle.demands.proofs.Bits.{bits}
 use Rattle.demands.proofs.Every.{every}
 
@@ -205,9 +207,11 @@ module _ (h k : Head) (e : setting k 23 ≡ setting h 23) where
 abbrev mode : Stored → ℕ
 mode s = getD (s .values) 23 0
 
+untouched : (h k : Head) → setting k 23 ≡ setting h 23 → k .targets ≡ h .targets → Steps h k
+untouched h k e t = same-steps h k e (λ s. subst (Sound (displays h)) (sym t) s) (λ _ q. ap (λ (u : Targets). u .reached) (sym t) ∙ q)
+
 still : (h k : Head) → k .stored ≡ h .stored → k .targets ≡ h .targets → Steps h k
-still h k e t =
-    same-steps h k (ap mode e) (λ s. subst (Sound (displays h)) (sym t) s) (λ _ q. ap (λ (u : Targets). u .reached) (sym t) ∙ q)
+still h k e t = untouched h k (ap mode e) t
 
 idle : (h : Head) → Steps h h
 idle h = still h h refl refl
@@ -291,6 +295,9 @@ load-steps : (h : Head) (s : List ℕ) → Steps h (head.loadedOf h s)
 unfolding head.loadedOf staysOf isDisplay
 load-steps h s = record { sound = turned-sound _ _ (h .targets); turns = turned-turns _ _ (h .targets); unset = λ _. turned-unset _ _ (h .targets) }
 
+bring-steps : (h : Head) → Steps h (broughtOf h)
+bring-steps h = let b = brought h in untouched h (broughtOf h) (b .values 23 (λ e. omega arith)) (b .targets)
+
 -- a key state: outside alpha-numeric display no key acknowledges
 no-gift : (h : Head) (s : ℕ) → displays h ≡ false → keyGives h s ≡ false
 no-gift h s e = rw (e, and-false (eqb (h .faults .pending) 0), and-false (newly 1 h s), and-false (newly 2 h s))
@@ -322,7 +329,7 @@ keys-steps : (h : Head) (s : ℕ) → Steps h (keyedOf h s .head)
 unfolding keyedOf
 keys-steps h s = go (adoptsOf h s)
   where
-    go : (b : Bool) → Steps h (cond {A = Stepped} b (record { head = adoptedOf (starTaken h s); replied = true; reply = adoptionOf (statusOf h) (h .stored .offer) }) (record { head = upOf (pressedOf s (h .keys) upKey) (starTaken h s); replied = false; reply = replicate 10 0 }) .head)
+    go : (b : Bool) → Steps h (cond {A = Stepped} b (record { head = adoptedOf (starTaken h s); replied = true; reply = adoptionOf (statusOf h) (h .stored .offer) }) (record { head = starTaken h s; replied = false; reply = replicate 10 0 }) .head)
     go true = adopted-steps h s
     go false = keyed-steps h _ s (keyed h s)
 
@@ -332,6 +339,7 @@ ask-steps (alone.tick t) h = tick-steps h t
 ask-steps (alone.measure m) h = measure-steps h m
 ask-steps alone.power h = restarts h h refl
 ask-steps (alone.load s) h = load-steps h s
+ask-steps alone.bring h = bring-steps h
 
 -- ---- the calls on a head alone: what is refused leaves the head as it is
 byte-alone : (h : Head) (b t n : ℕ) → Steps h (head.byteOf h b t n .head)
@@ -343,7 +351,7 @@ unfolding head.keysOf
 keys-alone h s n = either (λ (f : Fed). Steps h (f .head)) (head.unfed h) _ (head.lentTests h (head.keysTests s) n) (λ why. idle h) (λ _. keys-steps h s)
 
 ask-alone : (h : Head) (a : alone.Ask) → Steps h (alone.called a h .head)
-ask-alone h a = rw (called-is a h) (either (λ (c : Called). Steps h (c .head)) (head.refusedWith h) _ ((wellformedOf h, Malformed) ∷ alone.own a) (λ why. idle h) (λ _. ask-steps a h))
+ask-alone h a = rw (called-is a h) (either (λ (c : Called). Steps h (c .head)) (head.refusedWith h) _ ((passesOf (alone.brings a) h, Malformed) ∷ alone.own a) (λ why. idle h) (λ _. ask-steps a h))
 
 -- ---- one call on a line, at a head that it did not make
 call-steps : (c : Call) (n : ℕ) (ss : List ℕ) (k : ℕ) (h : Head) → k < n → Steps h (headBy c n ss k h)

@@ -28,18 +28,18 @@ use Rattle.line.specs.declared.calls.Line.{Line}
 use Rattle.line.specs.declared.calls.Called.{Called}
 use Rattle.line.specs.declared.calls.Fed.{Fed}
 use Rattle.line.specs.Calls.{serialsAt, fitsOf, headAt, doneWith, refusedWith, placedOf, grownBy, growOf, byteOf, keysOf}
-use Rattle.line.proofs.Laws.{fits-small}
+use Rattle.line.proofs.Laws.{fits-small, fits-either}
 use Rattle.line.proofs.Theorems.{Kept, grown-serials, grow-keeps, byte-keeps, tick-keeps, named-keeps, keys-keeps, namedLine, named-line, keys-line, tick-alone, byte-alone, well-at}
 use Rattle.rack.proofs.Theorems.{none-line, dropped-at, rack-keeps}
 use Rattle.demands.specs.Calls.{Ask, Call, newHead, byte, tick, named, keys, dropped}
 use Rattle.demands.specs.Past.{mayAdd, grown, marked, room, makes, names}
 use Rattle.demands.specs.Run.{product, askOf, aloneOf, after}
-use Rattle.demands.proofs.Named.{ask-is}
+use Rattle.demands.proofs.Named.{brings, ask-is}
 
 ask-keeps : (a : Ask) (l : Line) (j : ℕ) → Kept l (askOf a l j .line)
 ask-keeps a l j =
     rw (ask-is a l j)
-    (named-keeps l j (called (aloneOf a) (headAt l j)) (called-fits (aloneOf a) (headAt l j)) (asked-serial (aloneOf a) (headAt l j)))
+    (named-keeps l (brings a) j (called (aloneOf a) (headAt l j)) (called-fits (aloneOf a) (headAt l j)) (asked-serial (aloneOf a) (headAt l j)))
 
 -- ---- a new head, by the three tests
 abbrev growBy : Bool → Bool → Bool → Line → ℕ → ℕ → Called
@@ -160,10 +160,10 @@ module _ (l : Line) (f : fitsOf l ≡ true) (e : length (l .heads) ≡ 32) where
       go false p = byte-short l b t s k (leb-false 10 s p)
 
   -- a call that names head j, and makes g of it alone; of a head that is well-formed g makes what m does
-  named-at : (j k : ℕ) (g m : Head → Head) → ((h : Head) → wellformedOf h ≡ true → g h ≡ m h)
-      → headAt (namedLine l j (g (headAt l j))) k ≡ cond (names (l .count) j k) (m (headAt l k)) (headAt l k)
+  named-at : (b : Bool) (j k : ℕ) (g m : Head → Head) → ((h : Head) → wellformedOf h ≡ true → g h ≡ m h)
+      → headAt (namedLine l b j (g (headAt l j))) k ≡ cond (names (l .count) j k) (m (headAt l k)) (headAt l k)
   unfolding placedOf
-  named-at j k g m same = rw f (go (ltb j (l .count)) refl)
+  named-at b j k g m same = rw (fits-either b l f) (go (ltb j (l .count)) refl)
     where
       go : (b : Bool) → ltb j (l .count) ≡ b
           → headAt (cond b (placedOf l j (g (headAt l j))) l) k ≡ cond (b && eqb k j) (m (headAt l k)) (headAt l k)
@@ -177,14 +177,14 @@ module _ (l : Line) (f : fitsOf l ≡ true) (e : length (l .heads) ≡ 32) where
   ask-at : (a : Ask) (j k : ℕ) → headAt (askOf a l j .line) k ≡ cond (names (l .count) j k) (askedOf a (headAt l k)) (headAt l k)
   unfolding askedOf
   ask-at a j k =
-      rw (ask-is a l j, named-line l j (called (aloneOf a) (headAt l j)))
-      (named-at j k (λ h. called (aloneOf a) h .head) (λ h. guarded (λ why. h) (own (aloneOf a)) (next (aloneOf a) h)) (called-head (aloneOf a)))
+      rw (ask-is a l j, named-line l (brings a) j (called (aloneOf a) (headAt l j)))
+      (named-at (brings a) j k (λ h. called (aloneOf a) h .head) (λ h. guarded (λ why. h) (own (aloneOf a)) (next (aloneOf a) h)) (called-head (aloneOf a)))
 
   keys-at : (j k s n : ℕ) → headAt (keysOf l j s n .line) k ≡ cond (names (l .count) j k) (keyedBy s n (headAt l k)) (headAt l k)
   unfolding keyedBy
   keys-at j k s n =
       rw (keys-line l j s n)
-      (named-at j k (λ h. head.keysOf h s n .head) (λ h. cond (leb s 7 && room n) (keyedOf h s .head) h) (λ h. lent-keys-head h s n))
+      (named-at false j k (λ h. head.keysOf h s n .head) (λ h. cond (leb s 7 && room n) (keyedOf h s .head) h) (λ h. lent-keys-head h s n))
 
   -- a byte, a tick and a rack reach the heads that there are
   pub after-at : (c : Call) (k : ℕ) → k < grown c (l .count) (serialsAt l)

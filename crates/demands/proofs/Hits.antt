@@ -29,10 +29,11 @@ use Rattle.head.specs.declared.calls.Hit.the-variants.{Bits, Refused}
 use Rattle.line.specs.Calls.{lastHitOf}
 use Rattle.line.proofs.Theorems.{well-at}
 use Rattle.head.specs.Calls.{loadedOf}
-use Rattle.demands.specs.Calls.{Ask, measure, power, load, Call, newHead, byte, tick, named, keys, dropped, Calls, _▸_}
+use Rattle.demands.specs.Calls.{Ask, measure, power, load, bring, Call, newHead, byte, tick, named, keys, dropped, Calls, _▸_}
 use Rattle.demands.specs.Past.{Entry, grown, room, gather, making, nothing, locked, telling, hearing, storing, loadable, loaded, asked, adopts, adopting, pressing, pressed, makes, names, change, look, count, serials, entry}
 use Rattle.demands.specs.Run.{run, headIn, product}
 use Rattle.demands.specs.Hits.{Shown, damage, hits, lastHit, Hits, AllSeen, cases}
+use Rattle.demands.proofs.Older.{brought}
 use Rattle.demands.proofs.Computing.{computing}
 use Rattle.demands.proofs.Telegram.{told-restarts}
 use Rattle.demands.proofs.Ear.{ear-alone, ear-whole}
@@ -91,6 +92,7 @@ module _ (h : Head) (e : Entry) (A : Is h e) where
   unfolding askedOf alone.own alone.next asked loaded loadedOf restartedOf restartedFaults
   ask-kept (measure m) = either (λ (x : Head). kept x ≡ kept h) (inReachOf m) (λ _. ap (λ (f : Faults). f .hit) (measured h m .faults)) refl
   ask-kept power = refl
+  ask-kept bring = ap (λ (f : Faults). f .hit) (brought h .faults)
   ask-kept (load s) = rw (guarded-is s h (loadedOf h s)) (elim (loadable s) as (λ x. kept (cond x (loadedOf h s) h) ≡ cond (cond x (storing s) nothing .restarts) 0 (kept h)) [ true ↦ refl | false ↦ refl ])
 
   -- a key state leaves it, but for the restart of an adoption

@@ -4,6 +4,7 @@ pub mod Sentences
 pub mod SheetCases
 pub mod Named
 pub mod Twenty
+pub mod Older
 pub mod Refusals
 pub mod Sorts
 pub mod Telegram
@@ -19,6 +20,7 @@ pub mod Telling
 pub mod Words
 pub mod Every
 pub mod Bits
+pub mod Views
 pub mod Demand2
 pub mod Range
 pub mod One
@@ -50,5 +52,8 @@ pub mod Racks
 pub mod Turns
 pub mod WrongRacks
 pub mod RackCases
+pub mod OlderCases
+pub mod WrongOlder
+pub mod Retired
 pub mod Real
 pub mod Outcomes

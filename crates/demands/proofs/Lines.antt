@@ -29,8 +29,8 @@ use Rattle.line.proofs.Apart.{unused}
 use Rattle.line.proofs.Theorems.{byte-alone, byte-counts, byte-lays, tick-alone, named-there, named-one, keys-there, keys-lays, keys-one, well-at}
 use Rattle.demands.specs.Calls.{Ask}
 use Rattle.demands.specs.Run.{product, askOf, aloneOf}
-use Rattle.demands.specs.Lines.{Fits, heardAlone, numberIn, sum, allReplies, Only, ToOne, Unused, Grown}
-use Rattle.demands.proofs.Named.{ask-is}
+use Rattle.demands.specs.Lines.{Fits, FitsFor, heardAlone, numberIn, sum, allReplies, Only, ToOne, Unused, Grown}
+use Rattle.demands.proofs.Named.{brings, ask-is, takes-line}
 
 -- ---- a byte to a head that is well-formed, with room
 module _ (b t room : ℕ) (wide : 10 ≤ room) where
@@ -126,6 +126,16 @@ pub shows : (h : Head) → wellformedOf h ≡ true → head.lastHitOf h ≡ Bits
 unfolding head.lastHitOf
 shows h w = rw w
 
+-- a call that names a head
+pub line-asks : (l : Line) (i : ℕ) (a : Ask) → FitsFor a l → i < l .count → let alone = called (aloneOf a) (headAt l i) in
+    ToOne l i (askOf a l i .line) (alone .head) × (askOf a l i .answer ≡ alone .answer)
+line-asks l i a f p =
+    let b = brings a in
+    let c = called (aloneOf a) (headAt l i) in
+    let t = named-there b l (sym (takes-line a l) ∙ f .takes) (f .places) i p c in
+    let o = named-one l b i c in
+    rw (ask-is a l i) (record { there = t .1; others = o .1; count = o .0 }, t .0)
+
 module _ (l : Line) (f : Fits l) where
   pub line-ticks : (t k : ℕ) → k < l .count → headAt (tickOf l t .line) k ≡ called (tick t) (headAt l k) .head
   unfolding called head.tickOf
@@ -134,15 +144,6 @@ module _ (l : Line) (f : Fits l) where
   pub line-ticked : (t : ℕ) → (tickOf l t .answer ≡ answer.Done) × (tickOf l t .line .count ≡ l .count)
   unfolding tickOf
   line-ticked t = (rw (f .fits), rw (f .fits))
-
-  -- a call that names a head
-  pub line-asks : (i : ℕ) (a : Ask) → i < l .count → let alone = called (aloneOf a) (headAt l i) in
-      ToOne l i (askOf a l i .line) (alone .head) × (askOf a l i .answer ≡ alone .answer)
-  line-asks i a p =
-      let c = called (aloneOf a) (headAt l i) in
-      let t = named-there l (f .fits) (f .places) i p c in
-      let o = named-one l i c in
-      rw (ask-is a l i) (record { there = t .1; others = o .1; count = o .0 }, t .0)
 
   pub line-presses : (i s : ℕ) (space : List ℕ) → i < l .count → let alone = head.keysOf (headAt l i) s (length space) in
       ToOne l i (keysOf l i s (length space) .line) (alone .head)

@@ -16,12 +16,12 @@ use Rattle.rows.specs.Access.{stored}
 use Rattle.rows.proofs.Groups.{stored-at}
 use Rattle.state.specs.declared.parts.Head.{Head}
 use Rattle.sheet.specs.Each.{each}
-use Rattle.sheet.specs.Format.{countOf, addressOf, valueOf, wellFormedOf}
-use Rattle.sheet.specs.Loading.{knownOf, fittingOf, allKnownOf, allFittingOf, storeOf, storeAt, storedRows}
+use Rattle.sheet.specs.Format.{countOf, addressOf, wellFormedOf}
+use Rattle.sheet.specs.Loading.{meantOf, knownOf, fittingOf, allKnownOf, allFittingOf, storeOf, storeAt, storedRows}
 use Rattle.sheet.proofs.Each.{each-at}
 use Rattle.sheet.proofs.Loads.{stored-length}
 use Rattle.head.specs.Calls.{guarded, sheetTests, loadedOf}
-use Rattle.demands.specs.Past.{look, gives, orElse, written, storing, allStored, allRight, loadable}
+use Rattle.demands.specs.Past.{look, gives, orElse, meant, written, storing, allStored, allRight, loadable}
 use Rattle.demands.proofs.Telegram.{Becomes, value-gives, set-gives}
 
 -- ---- the head's tests are the account's
@@ -35,7 +35,7 @@ module _ (s : List ℕ) where
   all-known-is = same-each (knownOf s) (λ i. among stored (addressOf s i)) (λ i. sym (stored-at (addressOf s i))) (countOf s)
 
   pub all-fitting-is : allFittingOf s ≡ allRight s
-  unfolding fittingOf
+  unfolding fittingOf meantOf
   all-fitting-is = refl
 
   pub guarded-is : {A : Type 0} (x y : A) → guarded (λ why. x) (sheetTests s) y ≡ cond (loadable s) y x
@@ -55,16 +55,16 @@ look-else none p v = refl
 
 module _ (h : Head) (full : length (h .stored .values) ≡ 39) (s : List ℕ) where
   row-stored : (n r : ℕ) → isAt (placeOf (addressOf s n)) ≡ true → r < 39
-      → getD (storedRows (h .stored .values) s (suc n)) r 0 ≡ look (gives (addressOf s n) (valueOf s n) r) (getD (storedRows (h .stored .values) s n) r 0)
-  unfolding storeOf
+      → getD (storedRows (h .stored .values) s (suc n)) r 0 ≡ look (gives (addressOf s n) (meant s n) r) (getD (storedRows (h .stored .values) s n) r 0)
+  unfolding storeOf meantOf
   row-stored n r k lt = go (placeOf (addressOf s n)) refl k
     where
       go : (p : Place) → placeOf (addressOf s n) ≡ p → isAt p ≡ true
-          → getD (storeAt p (storedRows (h .stored .values) s n) (valueOf s n)) r 0
-          ≡ look (gives (addressOf s n) (valueOf s n) r) (getD (storedRows (h .stored .values) s n) r 0)
+          → getD (storeAt p (storedRows (h .stored .values) s n) (meant s n)) r 0
+          ≡ look (gives (addressOf s n) (meant s n) r) (getD (storedRows (h .stored .values) s n) r 0)
       go (At i) e k =
-          rw (value-gives (valueOf s n) 0 (h .stored) full (addressOf s n) i r e lt)
-          (set-gives (storedRows (h .stored .values) s n) i (valueOf s n) r (omega (arith, stored-length (h .stored .values) s n, full)))
+          rw (value-gives (meant s n) (addressOf s n) i r e lt)
+          (set-gives (storedRows (h .stored .values) s n) i (meant s n) r (omega (arith, stored-length (h .stored .values) s n, full)))
       go Nowhere e k = absurd (let z : _≡_ {A = ℕ} 0 1 = cc in omega arith)
 
   rows-stored : (n r : ℕ) → ((i : ℕ) → i < n → knownOf s i ≡ true) → r < 39
@@ -73,7 +73,7 @@ module _ (h : Head) (full : length (h .stored .values) ≡ 39) (s : List ℕ) wh
   rows-stored zero r k lt = refl
   rows-stored (suc n) r k lt =
       row-stored n r (k n (omega arith)) lt
-      ∙ rw (rows-stored n r (λ i p. k i (omega arith)) lt) (sym (look-else (gives (addressOf s n) (valueOf s n) r) (written s n r) (getD (h .stored .values) r 0)))
+      ∙ rw (rows-stored n r (λ i p. k i (omega arith)) lt) (sym (look-else (gives (addressOf s n) (meant s n) r) (written s n r) (getD (h .stored .values) r 0)))
 
   pub loaded-becomes : allKnownOf s ≡ true → Becomes (h .stored) (storing s) (loadedOf h s .stored)
   unfolding loadedOf look

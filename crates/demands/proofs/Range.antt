@@ -24,8 +24,8 @@ use Rattle.state.proofs.Laws.{told, stored-told, offer-told}
 use Rattle.line.specs.Round.{allFit}
 use Rattle.line.proofs.Laws.{fits-small, fits-heads}
 use Rattle.sheet.specs.Format.{countOf, addressOf, bodyOf, valueOf}
-use Rattle.demands.specs.Calls.{Ask, measure, power, load, IsSheet, Call, newHead, byte, tick, named, keys, dropped, Calls, start, _▸_, Bytes}
-use Rattle.demands.specs.Past.{Ear, Entry, Change, nothing, making, mayAdd, room, since, gather, kept, earBy, accepted, resets, gives, locked, obeying, withdrawn, dropping, hearing, orElse, written, storing, loadable, loaded, asked, adopts, adopting, pressing, pressed, delivered, makes, names, change, look, next, account, count, serials, entry, value, inForce}
+use Rattle.demands.specs.Calls.{Ask, measure, power, load, bring, IsSheet, Call, newHead, byte, tick, named, keys, dropped, Calls, start, _▸_, Bytes}
+use Rattle.demands.specs.Past.{Ear, Entry, Change, nothing, making, mayAdd, room, since, gather, kept, earBy, accepted, resets, gives, locked, obeying, withdrawn, dropping, hearing, orElse, meant, written, storing, loadable, loaded, asked, adopts, adopting, pressing, pressed, delivered, makes, names, change, look, next, account, count, serials, entry, value, inForce}
 use Rattle.demands.specs.Run.{run, headIn}
 use Rattle.demands.proofs.Ear.{ear-all}
 use Rattle.demands.proofs.Sim.{fits, sim}
@@ -155,18 +155,24 @@ else-word : (o p : Option ℕ) → Word o → Word p → Word (orElse o p)
 else-word none p x y = y
 else-word (some v) p x y = x
 
+or-zero : (b : Bool) {v : ℕ} → v < 4294967296 → cond b 0 v < 4294967296
+or-zero true l = omega arith
+or-zero false l = l
+
 written-word : (s : List ℕ) → ((k : ℕ) → getD s k 0 < 256) → (n r : ℕ) → r < 39 → Word (written s n r)
 unfolding valueOf
 written-word s bs zero r p = tt
 written-word s bs (suc n) r p =
     let at = bodyOf s n in
-    let w : valueOf s n < 4294967296 = omega (arith, bs at, bs (at + 1), bs (at + 2), bs (at + 3)) in
-    else-word (gives (addressOf s n) (valueOf s n) r) (written s n r) (gives-word (addressOf s n) (valueOf s n) r w p) (written-word s bs n r p)
+    let v : valueOf s n < 4294967296 = omega (arith, bs at, bs (at + 1), bs (at + 2), bs (at + 3)) in
+    let w : meant s n < 4294967296 = or-zero (eqb (addressOf s n) 0x35 && eqb (valueOf s n) 1) v in
+    else-word (gives (addressOf s n) (meant s n) r) (written s n r) (gives-word (addressOf s n) (meant s n) r w p) (written-word s bs n r p)
 
 asked-words : (a : Ask) (e : Entry) → IsSheet a → Words (asked a e)
 unfolding asked Words loaded
 asked-words (measure m) e bs r p = tt
 asked-words power e bs r p = tt
+asked-words bring e bs r p = gives-word 0x35 0 r (omega arith) p
 asked-words (load s) e bs r p = either-words (loadable s) (storing s) nothing (λ r p. written-word s bs (countOf s) r p) none-words r p
 
 -- a number that is adopted is one that is offered

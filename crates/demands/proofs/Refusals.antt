@@ -14,6 +14,7 @@ use Rattle.rows.specs.Among.{among}
 use Rattle.judge.proofs.Offers.{flip}
 use Rattle.state.specs.declared.parts.Head.{Head}
 use Rattle.state.specs.Wellformed.{inReachOf, wellformedOf}
+use Rattle.state.specs.Older.{passesOf}
 use Rattle.effects.specs.Stored.{restartedStored}
 use Rattle.effects.specs.Restart.{deliveredOf, restartedOf, freshOf}
 use Rattle.head.specs.declared.refusal.Refusal.{Refusal}
@@ -36,13 +37,13 @@ use Rattle.head.proofs.Asked.{called-same, called-refusal, lent-refusal}
 use Rattle.head.proofs.Refused.{refused-nothing}
 use Rattle.line.specs.declared.calls.Line.{Line}
 use Rattle.line.specs.declared.calls.Called.{Called}
-use Rattle.line.specs.Calls.{serialsAt, fitsOf, headAt, growOf, byteOf, byteSpaceOf, tickOf, namedTests, namedOf, keysOf, keysSpaceOf, lastHitOf, saveOf, saveSpaceOf, serialNumberOf}
-use Rattle.line.proofs.Theorems.{grow-refused, tick-refused, named-refused, keys-refused, keys-spared, byte-refused, well-at}
+use Rattle.line.specs.Calls.{serialsAt, fitsBy, fitsOf, headAt, growOf, byteOf, byteSpaceOf, tickOf, namedTests, namedOf, keysOf, keysSpaceOf, lastHitOf, saveOf, saveSpaceOf, serialNumberOf}
+use Rattle.line.proofs.Theorems.{grow-refused, tick-refused, named-refused, keys-refused, keys-spared, byte-refused, pass-at, well-at}
 use Rattle.rack.specs.Rack.{isRack, roomFor, droppedOf, Fed, fedOf, filled, refusedWith, racked, rackTests, rackOf, rackSpaceOf}
 use Rattle.demands.specs.Calls.{Ask, Call, newHead, byte, tick, named, keys, dropped}
 use Rattle.demands.specs.Run.{product, aloneOf, after}
 use Rattle.demands.specs.Demand1.{Row, row, first, ownRows, keysRows, saveRows, nodeRow, namedRows, headRows, rackRows, rowsFor, rowsAlone, ofAnswer, ofHeard, ofHit, ofSerial, ofRack, refusedAs, refusedAlone, headAfter, lentBy, spaceAfter, Numbered, Demand1}
-use Rattle.demands.proofs.Named.{ask-is}
+use Rattle.demands.proofs.Named.{brings, ask-is, takes-head, takes-line}
 use Rattle.demands.proofs.Loading.{all-known-is, all-fitting-is}
 use Rattle.demands.proofs.Twenty.{twenty}
 
@@ -89,6 +90,7 @@ own-rows (alone.tick t) = refl
 own-rows (alone.measure m) = refl
 own-rows alone.power = refl
 own-rows (alone.load s) = rw (all-known-is s, all-fitting-is s)
+own-rows alone.bring = refl
 
 -- ---- the number of each refusal
 module _ (h : Head) where
@@ -105,7 +107,7 @@ module _ (h : Head) where
   head-number (alone.byte b t space) = lent-rows (stepOf h b t) [] (length space) ∙ rw (twice (ltb (length space) 10))
   head-number (alone.keys s space) = head-keys s (length space)
   head-number (alone.asked a) =
-      answer-number (alone.called a h .answer) ∙ ap numbered (called-refusal a h) ∙ failed-first ((wellformedOf h, Malformed) ∷ alone.own a) ∙ rw (own-rows a)
+      answer-number (alone.called a h .answer) ∙ ap numbered (called-refusal a h) ∙ failed-first ((passesOf (alone.brings a) h, Malformed) ∷ alone.own a) ∙ rw (own-rows a, takes-head a h)
 
   head-hit : (w : Bool) → wellformedOf h ≡ w → ofHit (head.lastHitOf h) ≡ first (headRows h [])
   unfolding head.lastHitOf
@@ -146,13 +148,14 @@ module _ (l : Line) where
   tick-number t true p = simp p
 
   -- a call that names a head: 20, 3, then what the head alone says, which is no 20 where the line fits
-  named-number : (j : ℕ) (a : Ask) (f i : Bool) → fitsOf l ≡ f → ltb j (l .count) ≡ i
-      → ofAnswer (namedOf l j (alone.called (aloneOf a) (headAt l j)) .answer) ≡ first (rowsFor (named j a) l)
+  named-number : (j : ℕ) (a : Ask) (f i : Bool) → fitsBy (brings a) l ≡ f → ltb j (l .count) ≡ i
+      → ofAnswer (namedOf (brings a) l j (alone.called (aloneOf a) (headAt l j)) .answer) ≡ first (rowsFor (named j a) l)
   unfolding namedOf
-  named-number j a false i p q = simp p
-  named-number j a true false p q = simp (p, flip j (l .count), q)
+  named-number j a false i p q = simp (takes-line a l, p)
+  named-number j a true false p q = simp (takes-line a l, p, flip j (l .count), q)
   named-number j a true true p q =
-      let w = well-at l p j (ltb-true _ _ q) in simp (p, flip j (l .count), q) (simp w at (head-number (headAt l j) (alone.asked (aloneOf a))))
+      let w = takes-head (aloneOf a) (headAt l j) ∙ pass-at (brings a) l p j (ltb-true _ _ q) in
+      simp (takes-line a l, p, flip j (l .count), q) (simp w at (head-number (headAt l j) (alone.asked (aloneOf a))))
 
   keys-number : (j s n : ℕ) (f i : Bool) → fitsOf l ≡ f → ltb j (l .count) ≡ i → ofHeard (keysOf l j s n .heard) ≡ first (rowsFor (keys j s n) l)
   unfolding keysOf
@@ -198,7 +201,7 @@ module _ (l : Line) where
   line-number (newHead node serial) = grow-number node serial (fitsOf l) (ltb (l .count) 32) (leb 1 node && leb node 127) (among (serialsAt l) serial) refl refl refl refl
   line-number (byte b t s) = byte-number b t s (fitsOf l) (ltb s 10) refl refl
   line-number (tick t) = tick-number t (fitsOf l) refl
-  line-number (named j a) = rw (ask-is a l j) (named-number j a (fitsOf l) (ltb j (l .count)) refl refl)
+  line-number (named j a) = rw (ask-is a l j) (named-number j a (fitsBy (brings a) l) (ltb j (l .count)) refl refl)
   line-number (keys j s n) = keys-number j s n (fitsOf l) (ltb j (l .count)) refl refl
   line-number (dropped t) = rack-number [] t 0 0
 
@@ -270,8 +273,9 @@ line-same (byte b t s) l n e = byte-same l b t s (fitsOf l) (ltb s 10) n refl re
 line-same (tick t) l n e = let w = answered (tickOf l t .answer) e in tick-refused l t (w .0) (w .1)
 line-same (named j a) l n e =
     let c = alone.called (aloneOf a) (headAt l j) in
-    let w = answered (namedOf l j c .answer) (rw (ask-is a l j) at e) in
-    ap (λ (x : Called). x .line) (ask-is a l j) ∙ (named-refused l j c (called-same (aloneOf a) (headAt l j)) (w .0) (w .1))
+    let b = brings a in
+    let w = answered (namedOf b l j c .answer) (rw (ask-is a l j) at e) in
+    ap (λ (x : Called). x .line) (ask-is a l j) ∙ (named-refused l b j c (called-same (aloneOf a) (headAt l j)) (w .0) (w .1))
 line-same (keys j s n) l m e = let w = heard-as (keysOf l j s n .heard) e in keys-refused l j s n (w .0) (w .1)
 line-same (dropped t) l m e = rack-same l [] t [] 0 m e .0
 

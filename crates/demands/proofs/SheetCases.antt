@@ -6,7 +6,7 @@ use Rattle.demands.proofs.Computing.{computing}
 
 pub all-hold : Hold cases
 unfolding cases computing
-all-hold = (refl, (refl, (refl, (refl, (refl, (refl, (refl, (refl, (refl, (refl, (refl, (refl, (refl, (refl, (refl, (refl, (refl, (refl, (refl, (refl, (refl, (refl, (refl, (refl, (refl, (refl, (refl, (refl, (refl, (refl, (refl, (refl, (refl, (refl, tt))))))))))))))))))))))))))))))))))
+all-hold = (refl, (refl, (refl, (refl, (refl, (refl, (refl, (refl, (refl, (refl, (refl, (refl, (refl, (refl, (refl, (refl, (refl, (refl, (refl, (refl, (refl, (refl, (refl, (refl, (refl, (refl, (refl, (refl, (refl, (refl, (refl, (refl, (refl, (refl, (refl, (refl, (refl, tt)))))))))))))))))))))))))))))))))))))
 
 pub new-sheet : NewSheet
 unfolding computing
@@ -14,4 +14,4 @@ new-sheet = record { written = refl }
 
 pub all-told : All sentences
 unfolding sentences computing
-all-told = (refl, (refl, (refl, tt)))
+all-told = (refl, (refl, (refl, (refl, tt))))

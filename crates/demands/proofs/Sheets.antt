@@ -1,14 +1,14 @@
 -- Settings travel on a sheet: what loading does to a head and what is written from one, each by the tests that the call names; and a head is swapped by looking
 -- back over the calls.
 -- Assumes nothing.
-use Prim.Native.Nat.{ℕ, _+_, _*_, _-_, _/_, _%_, _<_, _≤_}
+use Prim.Native.Nat.{ℕ, zero, suc, _+_, _*_, _-_, _/_, _%_, _<_, _≤_}
 use mathlib.Core.Path.{_≡_, refl, sym, _∙_, ap}
-use mathlib.Core.Bool.{Bool, true, false, and-eq-true-iff, false≢true}
+use mathlib.Core.Bool.{Bool, true, false, cond, _&&_, and-eq-true-iff, false≢true}
 use mathlib.Core.Logic.{_≢_, _↔_}
 use mathlib.Core.List.{List, [], _∷_, _++_}
 use native.Mathlib.Omega.{arith}
-use borrow.Author.Tests.{le-ltb, lt-ltb, ltb-true, ltb-false}
-use lib.Dec.{ltb}
+use borrow.Author.Tests.{le-ltb, lt-ltb, ltb-true, ltb-false, leb-true, le-leb, lt-leb, eqb-true, eqb-false, ne-eqb}
+use lib.Dec.{leb, ltb, eqb}
 use lib.ListN.{length, take, drop, getD, List·getD-append, List·getD-eq-default}
 use lib.Seq.{take-at, drop-at, length-front, length-take-le}
 use Rattle.rows.specs.declared.table.Row.{Row}
@@ -18,7 +18,7 @@ use Rattle.rows.specs.Among.{among}
 use Rattle.rows.specs.Table.{rows, rowOf, address, placeOf, isAt}
 use Rattle.rows.specs.Access.{stored}
 use Rattle.rows.specs.Ranges.{rangeOf, isRight, fitsIn, allIn, allRightOf}
-use Rattle.rows.proofs.Laws.{row-place, place-below, place-address}
+use Rattle.rows.proofs.Laws.{row-place, place-below, place-address, retired-row}
 use Rattle.rows.proofs.Groups.{stored-at}
 use Rattle.state.specs.declared.parts.Head.{Head}
 use Rattle.state.specs.Mode.{isDisplay}
@@ -31,7 +31,7 @@ use Rattle.sheet.specs.declared.refusal.Answer.the-variants as sheet-answer
 use Rattle.sheet.specs.Refusals.{refusalOf}
 use Rattle.sheet.specs.Format.{countOf, addressOf, valueOf, wellFormedOf}
 use Rattle.sheet.specs.Sheet.{Sheet, four}
-use Rattle.sheet.specs.Loading.{allKnownOf, allFittingOf, checkOf, storedRows, loadOf}
+use Rattle.sheet.specs.Loading.{meantOf, allKnownOf, allFittingOf, checkOf, storedRows, loadOf}
 use Rattle.sheet.specs.Spelled.{bodiesOf}
 use Rattle.sheet.specs.Writing.{whole, sheetOf, writeOf, writtenOn}
 use Rattle.sheet.proofs.Each.{each-at, each-all}
@@ -52,9 +52,9 @@ use Rattle.line.specs.Calls.{saveOf, saveSpaceOf}
 use Rattle.line.proofs.Theorems.{well-at}
 use Rattle.demands.specs.Calls as calls
 use Rattle.demands.specs.Calls.{Calls, named, load, _▸_}
-use Rattle.demands.specs.Past.{allStored, allRight, loadable, grown, account, count, value, inForce}
+use Rattle.demands.specs.Past.{meant, allStored, allRight, loadable, grown, account, count, value, inForce}
 use Rattle.demands.specs.Run.{product, askOf, after, runs, run, headIn}
-use Rattle.demands.specs.Lines.{Fits}
+use Rattle.demands.specs.Lines.{Fits, FitsFor}
 use Rattle.demands.specs.Demand1.{first, ownRows, saveRows}
 use Rattle.demands.specs.Sheets.{Known, Right, Formed, Loadable, Stored, Loaded, Saved, Typed, Sheets, numberOf, ofSheet, Functions}
 use Rattle.demands.proofs.Loading.{all-known-is, all-fitting-is}
@@ -82,6 +82,27 @@ right-is : (a r v : ℕ) → r < 39 → a ≡ address (rowOf r) → isRight (ran
 unfolding rangeOf fitsIn
 right-is a r v lt q = rw (q, row-place r lt)
 
+-- of 35h, 0 and 1; any other row writes the value that stands in it
+abbrev meantBy : ℕ → ℕ → ℕ
+meantBy a v = cond (eqb a 0x35 && eqb v 1) 0 v
+
+right-35 : (v : ℕ) → isRight (rangeOf 0x35 (meantBy 0x35 v)) ≡ leb v 1
+unfolding rows rowOf
+right-35 v = right-is 0x35 29 (meantBy 0x35 v) (omega arith) refl ∙ retired-row (meantBy 0x35 v) ∙ go v
+  where
+    go : (v : ℕ) → eqb (meantBy 0x35 v) 0 ≡ leb v 1
+    go zero = refl
+    go (suc zero) = refl
+    go (suc (suc v)) = rw (ne-eqb (suc (suc v)) 1 (λ e. omega arith), ne-eqb (suc (suc v)) 0 (λ e. omega arith), lt-leb (suc (suc v)) 1 (omega arith))
+
+meant-other : (a v : ℕ) → a ≢ 0x35 → meantBy a v ≡ v
+meant-other a v n = rw (ne-eqb a 0x35 n)
+
+meant-35 : (v : ℕ) → v ≤ 1 → meantBy 0x35 v ≡ 0
+meant-35 zero l = refl
+meant-35 (suc zero) l = refl
+meant-35 (suc (suc v)) l = absurd (omega arith)
+
 module _ (s : List ℕ) where
   known-told : allStored s ≡ true → Known s
   known-told e i h = among-told (addressOf s i) (each-at (λ i. among stored (addressOf s i)) (countOf s) e i h)
@@ -89,14 +110,25 @@ module _ (s : List ℕ) where
   known-holds : Known s → allStored s ≡ true
   known-holds k = each-all (λ i. among stored (addressOf s i)) (countOf s) (λ i h. among-holds (addressOf s i) (k i h))
 
+  -- the write of row i is right there
+  abbrev fits-there : ℕ → Bool
+  fits-there i = isRight (rangeOf (addressOf s i) (meant s i))
+
   right-told : allRight s ≡ true → Right s
-  right-told e i r h lt q =
-      sym (right-is (addressOf s i) r (valueOf s i) lt q) ∙ each-at (λ i. isRight (rangeOf (addressOf s i) (valueOf s i))) (countOf s) e i h
+  right-told e = (
+    λ i r h lt q n. sym (right-is (addressOf s i) r (valueOf s i) lt q) ∙ rw (meant-other (addressOf s i) (valueOf s i) n) at (each-at fits-there (countOf s) e i h),
+    λ i h q. leb-true _ _ (sym (right-35 (valueOf s i)) ∙ rw q at (each-at fits-there (countOf s) e i h)),
+  )
 
   right-holds : Known s → Right s → allRight s ≡ true
-  right-holds k right =
-      each-all (λ i. isRight (rangeOf (addressOf s i) (valueOf s i))) (countOf s)
-      (λ i h. let r = k i h in right-is (addressOf s i) (r .0) (valueOf s i) (r .1) (r .2) ∙ right i (r .0) h (r .1) (r .2))
+  right-holds k right = each-all fits-there (countOf s) (λ i h. go i h (eqb (addressOf s i) 0x35) refl)
+    where
+      go : (i : ℕ) → i < countOf s → (b : Bool) → eqb (addressOf s i) 0x35 ≡ b → fits-there i ≡ true
+      go i h true e = let q = eqb-true (addressOf s i) 0x35 e in rw q (right-35 (valueOf s i) ∙ le-leb _ _ (right .1 i h q))
+      go i h false e =
+          let n = eqb-false (addressOf s i) 0x35 e in
+          let r = k i h in
+          rw (meant-other (addressOf s i) (valueOf s i) n) (right-is (addressOf s i) (r .0) (valueOf s i) (r .1) (r .2) ∙ right .0 i (r .0) h (r .1) (r .2) n)
 
   loadable-told : loadable s ≡ true → Loadable s
   unfolding loadable
@@ -152,19 +184,26 @@ unfolding allRightOf
 well-long h w =
     let t = right-long rows (h .stored .values) (stored-told (h .stored) (told h w .stored) .values) in omega (arith, rows-count)
 
-values-stored : (v s : List ℕ) → 39 ≤ length v → Sheet s → Stored v (storedRows v s (countOf s)) s
-values-stored v s long is =
+place-35 : placeOf 0x35 ≡ At 29
+unfolding placeOf rows
+place-35 = refl
+
+values-stored : (v s : List ℕ) → 39 ≤ length v → Sheet s → Right s → Stored v (storedRows v s (countOf s)) s
+unfolding meantOf
+values-stored v s long is right =
+    let row = stored-row v s long (is .rising) (countOf s) (omega arith) in
     record {
-      rows = λ i r p lt e. stored-row v s long (is .rising) (countOf s) (omega arith) i r p (rw e (row-place r lt));
+      rows = λ i r p lt e n. row i r p (rw e (row-place r lt)) ∙ meant-other (addressOf s i) (valueOf s i) n;
+      retired = λ i p e. row i 29 p (rw e place-35) ∙ rw e (meant-35 (valueOf s i) (right .1 i p e));
       others = λ r lt n. stored-other v s (countOf s) (address (rowOf r)) r (row-place r lt) n;
       long = stored-length v s (countOf s);
     }
 
-loaded-is : (h : Head) (s : List ℕ) → wellformedOf h ≡ true → wellFormedOf s ≡ true → Loaded h (head.loadedOf h s) s
+loaded-is : (h : Head) (s : List ℕ) → wellformedOf h ≡ true → Loadable s → Loaded h (head.loadedOf h s) s
 unfolding head.loadedOf turnedOf staysOf isDisplay
 loaded-is h s w f =
     record {
-      values = values-stored (h .stored .values) s (well-long h w) (sheet-told s f);
+      values = values-stored (h .stored .values) s (well-long h w) (f .sheet) (f .right);
       number = refl;
       baud = refl;
       unlocked = refl;
@@ -195,7 +234,7 @@ module _ (h : Head) (s : List ℕ) where
   takes w = (λ e. loadable-told s (done-told e .1), λ l. ap (λ (c : Called). c .answer) (load-is w (loadable-holds s l)))
 
   loads : alone.called (alone.load s) h .answer ≡ answer.Done → Loaded h (alone.called (alone.load s) h .head) s
-  loads e = let d = done-told e in rw (load-is (d .0) (d .1)) (loaded-is h s (d .0) (tests-hold s (d .1) .0))
+  loads e = let d = done-told e in rw (load-is (d .0) (d .1)) (loaded-is h s (d .0) (loadable-told s (d .1)))
 
 -- bytes that may not be loaded change nothing
 unloaded : (h : Head) (s : List ℕ) → (Loadable s → ⊥) → alone.called (alone.load s) h .head ≡ h
@@ -235,11 +274,11 @@ module _ (v space : List ℕ) (full : length v ≡ 39) (long : 274 ≤ length sp
       }
 
 -- a sheet that is written: the head is well-formed, and there is room
-record Room (h : Head) (space : List ℕ) : Type 0 where
-  well : wellformedOf h ≡ true
-  long : 274 ≤ length space
+pub record Room (h : Head) (space : List ℕ) : Type 0 where
+  pub well : wellformedOf h ≡ true
+  pub long : 274 ≤ length space
 
-save-room : (h : Head) (space : List ℕ) → head.saveOf h (length space) ≡ answer.Done → Room h space
+pub save-room : (h : Head) (space : List ℕ) → head.saveOf h (length space) ≡ answer.Done → Room h space
 unfolding head.saveOf
 save-room h space = go (wellformedOf h) refl (ltb (length space) whole) refl
   where
@@ -301,9 +340,12 @@ module _ (cs : Calls) (j : ℕ) (jl : j < count cs) where
     abbrev alone-loaded : Head
     alone-loaded = alone.called (alone.load s) (headIn cs j) .head
 
+    takes-load : FitsFor (load s) (run cs)
+    takes-load = record { takes = line-fits .fits; places = line-fits .places }
+
     loaded-there : headIn (cs ▸ named j (load s)) j ≡ alone-loaded
     unfolding runs after
-    loaded-there = line-asks (run cs) line-fits j (load s) there .0 .there
+    loaded-there = line-asks (run cs) j (load s) takes-load there .0 .there
 
     still-there : j < count (cs ▸ named j (load s))
     unfolding account grown
@@ -320,11 +362,12 @@ module _ (cs : Calls) (j : ℕ) (jl : j < count cs) where
     done-there l = takes (headIn cs j) s well .1 l
 
     counts : Loadable s
-        → ((i r : ℕ) → i < countOf s → r < 39 → addressOf s i ≡ address (rowOf r) → value (cs ▸ named j (load s)) j r ≡ valueOf s i)
+        → ((i r : ℕ) → i < countOf s → r < 39 → addressOf s i ≡ address (rowOf r) → addressOf s i ≢ 0x35 → value (cs ▸ named j (load s)) j r ≡ valueOf s i)
+        × ((i : ℕ) → i < countOf s → addressOf s i ≡ 0x35 → value (cs ▸ named j (load s)) j 29 ≡ 0)
         × ((r : ℕ) → r < 39 → ((i : ℕ) → i < countOf s → addressOf s i ≢ address (rowOf r)) → value (cs ▸ named j (load s)) j r ≡ value cs j r)
     counts l =
         let k = loads (headIn cs j) s (done-there l) .values in
-        (λ i r h lt e. value-there r lt ∙ k .rows i r h lt e, λ r lt n. value-there r lt ∙ k .others r lt n ∙ sim.sim cs j jl .vals-are r lt)
+        (λ i r h lt e n. value-there r lt ∙ k .rows i r h lt e n, λ i h e. value-there 29 (omega arith) ∙ k .retired i h e, λ r lt n. value-there r lt ∙ k .others r lt n ∙ sim.sim cs j jl .vals-are r lt)
 
     counts-not : (Loadable s → ⊥) → (r : ℕ) → r < 39 → value (cs ▸ named j (load s)) j r ≡ value cs j r
     counts-not never r lt =
@@ -349,7 +392,7 @@ module _ (cs : Calls) (i j : ℕ) (space : List ℕ) (bs : calls.Bytes cs) (il :
       × (inForce (cs ▸ named j (load s)) j ≡ inForce cs j)
   swaps = (
     line-saves (run cs) (line-fits cs i il) i space (there cs i il) .0 ∙ alone-saves,
-    line-asks (run cs) (line-fits cs j jl) j (load s) (there cs j jl) .1 ∙ alone-loads .0,
+    line-asks (run cs) j (load s) (takes-load cs j jl s) (there cs j jl) .1 ∙ alone-loads .0,
     λ r lt. value-there cs j jl s r lt ∙ ap (λ (w : List ℕ). getD w r 0) (alone-loads .1) ∙ sim.sim cs i il .vals-are r lt,
     force-there cs j jl s ∙ loads (headIn cs j) s (alone-loads .0) .number ∙ sim.sim cs j jl .force-is,
   )
@@ -361,7 +404,7 @@ sheets =
       account = λ s. (loadable-told s, loadable-holds s);
       loads = loads;
       saves = λ h space full e. let k = save-room h space e in rw (saved-is h space k) (saved (h .stored .values) space full (k .long));
-      line-loads = λ l i s f p. let t = line-asks l f i (load s) p in (t .1, t .0 .there, t .0 .others, t .0 .count);
+      line-loads = λ l i s f p. let t = line-asks l i (load s) (record { takes = f .fits; places = f .places }) p in (t .1, t .0 .there, t .0 .others, t .0 .count);
       line-saves = λ l i space f p. line-saves l f i space p;
       counts = λ cs j s jl. counts cs j jl s;
       counts-not = λ cs j s jl. counts-not cs j jl s;
@@ -400,7 +443,7 @@ module _ (s : List ℕ) where
 
 values-loaded : (values s : List ℕ) → length values ≡ 39 → Loadable s → Stored values (loadOf values s .values) s
 unfolding loadOf
-values-loaded values s full l = rw (check-done s (loadable-holds s l)) (values-stored values s (omega arith) (l .sheet))
+values-loaded values s full l = rw (check-done s (loadable-holds s l)) (values-stored values s (omega arith) (l .sheet) (l .right))
 
 wrote : (n : ℕ) (b : Bool) → ltb n 274 ≡ b → ofSheet (writeOf n) ≡ first (saveRows n)
 unfolding writeOf

@@ -5,6 +5,7 @@ use mathlib.Core.Path.{_≡_, refl, sym, _∙_, ap, subst}
 use mathlib.Core.Bool.{Bool, true, false, cond, not, _&&_, false≢true, and-eq-true-iff}
 use mathlib.Core.Logic.{_⊎_, inl}
 use mathlib.Core.List.{List, [], map}
+use mathlib.Core.Option.{none, some}
 use native.Mathlib.Nat.{not-suc-le-zero}
 use native.Mathlib.Omega.{arith}
 use borrow.Author.Tests.{ltb-true, ltb-false, eqb-true, eqb-false}
@@ -18,17 +19,18 @@ use Rattle.judge.specs.Judged.{judgedOf}
 use Rattle.state.specs.declared.parts.Head.{Head}
 use Rattle.state.specs.declared.parts.Stored.{Stored}
 use Rattle.state.specs.declared.parts.Ear.{Ear}
-use Rattle.state.specs.Settings.{valueAt, timeoutPlace, calibrationKeyPlace, incrementalKeyPlace, acknowledgementPlace}
+use Rattle.state.specs.Settings.{valueAt, timeoutPlace, calibrationKeyPlace, acknowledgementPlace}
 use Rattle.state.specs.Mode.{displayOf}
 use Rattle.state.specs.Status.{statusOf}
 use Rattle.state.specs.Wellformed.{inReachOf}
+use Rattle.state.specs.Older.{broughtOf}
 use Rattle.effects.specs.Stored.{lockedOf, adoptedStored, restartedStored}
 use Rattle.effects.specs.Aimed.{lackingOf}
 use Rattle.effects.specs.Restart.{emptyEar, restartedOf, withStored, adoptedOf, deliveredOf, freshOf}
 use Rattle.reply.specs.Reply.{adoptionOf}
 use Rattle.head.specs.declared.hear.Stepped.{Stepped}
 use Rattle.head.specs.Hear.{elapsedOf, standingOf, withEar, stepOf, tellOf}
-use Rattle.head.specs.Moves.{overdueOf, tickedOf, measuredOf, leftKey, starKey, upKey, leftOf, starOf, upOf, pressedOf, withKeys, starTaken, adoptsOf, keyedOf}
+use Rattle.head.specs.Moves.{overdueOf, tickedOf, measuredOf, leftKey, starKey, leftOf, starOf, pressedOf, withKeys, starTaken, adoptsOf, keyedOf}
 use Rattle.head.specs.Outcome as alone
 use Rattle.line.specs.Calls.{emptyOf, serialsAt, fitsOf}
 use Rattle.line.proofs.Theorems.{empty-fits}
@@ -36,12 +38,13 @@ use Rattle.head.proofs.Again.{told-stored, told-keys}
 use Rattle.head.proofs.Passes.{unanswered}
 use Rattle.sheet.specs.Format.{wellFormedOf}
 use Rattle.head.specs.Calls.{loadedOf}
-use Rattle.demands.specs.Calls.{Ask, measure, power, load, Call, newHead, byte, tick, named, keys, dropped, Calls, start, _▸_}
+use Rattle.demands.specs.Calls.{Ask, measure, power, load, bring, Call, newHead, byte, tick, named, keys, dropped, Calls, start, _▸_}
 use Rattle.demands.specs.Past as past
-use Rattle.demands.specs.Past.{Entry, Change, nothing, delivered, making, mayAdd, grown, marked, room, gather, kept, earBy, noBytes, locked, accepted, obeying, withdrawn, dropping, telling, hearing, allStored, storing, loadable, loaded, cutting, asked, adopts, adopting, pressing, pressed, makes, names, change, look, next, entryBy, account, count, serials, entry}
+use Rattle.demands.specs.Past.{Entry, Change, gives, nothing, delivered, making, mayAdd, grown, marked, room, gather, kept, earBy, noBytes, locked, accepted, obeying, withdrawn, dropping, telling, hearing, allStored, storing, loadable, loaded, cutting, asked, adopts, adopting, pressing, pressed, makes, names, change, look, next, entryBy, account, count, serials, entry}
 use Rattle.demands.specs.Run.{runs, run, headIn}
-use Rattle.demands.proofs.Telegram.{Becomes, set-gives, told-becomes, told-restarts}
+use Rattle.demands.proofs.Telegram.{Becomes, gives-35, set-gives, told-becomes, told-restarts}
 use Rattle.demands.proofs.Ear.{Gathered, ear-short, ear-whole, ear-alone, told-none}
+use Rattle.demands.proofs.Older.{brought}
 use Rattle.demands.proofs.Loading.{all-known-is, guarded-is, loaded-becomes}
 use Rattle.demands.proofs.Heads.{after-fits, after-count, after-serials, askedOf, keyedBy, headBy, after-at}
 
@@ -143,11 +146,6 @@ unfolding starOf
 star-keeps on h =
     either-keeps h (on && (displayOf (h .stored .values) && eqb (valueAt (h .stored .values) acknowledgementPlace) 2)) _ _ (record { stored = refl; ear = refl; keys = refl }) same
 
-up-keeps : (on : Bool) (h : Head) → Keeps h (upOf on h)
-unfolding upOf
-up-keeps on h =
-    either-keeps h (on && eqb (valueAt (h .stored .values) incrementalKeyPlace) 1) _ _ (record { stored = refl; ear = refl; keys = refl }) same
-
 -- ---- one call, at head k of n heads
 module _ (h : Head) (e : Entry) (A : Is h e) where
   -- a head whose stored part a change has made what it is
@@ -210,22 +208,21 @@ module _ (h : Head) (e : Entry) (A : Is h e) where
   cut-is ear =
       changed cutting ear (restartedOf h) (record { size = refl; vals = λ r lt. refl; force = refl; lock = refl; offer = refl }) (restarted-none h) refl
 
-  -- ---- keys: left, star and up, or an adoption
+  -- ---- keys: left and star, or an adoption
   taken-is : (s : ℕ) → Keeps (withKeys h s) (starTaken h s)
   taken-is s =
       let l = leftOf (pressedOf s (h .keys) leftKey) (withKeys h s) in
       let a = left-keeps (pressedOf s (h .keys) leftKey) (withKeys h s) in
       let b = star-keeps (pressedOf s (h .keys) starKey) l in record { stored = b .stored ∙ a .stored; ear = b .ear ∙ a .ear; keys = b .keys ∙ a .keys }
 
-  pressed-up : (s : ℕ) → Is (upOf (pressedOf s (h .keys) upKey) (starTaken h s)) (next (pressing s) (e .ear) e)
+  pressed-is : (s : ℕ) → Is (starTaken h s) (next (pressing s) (e .ear) e)
   unfolding look
-  pressed-up s =
+  pressed-is s =
       let a = taken-is s in
-      let b = up-keeps (pressedOf s (h .keys) upKey) (starTaken h s) in
-      let x = upOf (pressedOf s (h .keys) upKey) (starTaken h s) in
-      let u = unchanged x (b .stored ∙ a .stored) in
+      let x = starTaken h s in
+      let u = unchanged x (a .stored) in
       changed (pressing s) (e .ear) x (record { size = u .size; vals = u .vals; force = u .force; lock = u .lock; offer = u .offer })
-      (same-ear x (b .ear ∙ a .ear)) (b .keys ∙ a .keys)
+      (same-ear x (a .ear)) (a .keys)
 
   adoption-becomes : (st : Stored) → st ≡ h .stored → Becomes (h .stored) (adopting (e .offer)) (restartedStored (adoptedStored st))
   unfolding look restartedStored adoptedStored
@@ -257,10 +254,10 @@ module _ (h : Head) (e : Entry) (A : Is h e) where
       announcing x = record { head = x; replied = true; reply = adoptionOf (statusOf h) (h .stored .offer) }
 
       go : (x y : Bool)
-          → Is (cond x (cond y (announcing (adoptedOf (starTaken h s))) (unanswered (upOf (pressedOf s (h .keys) upKey) (starTaken h s))) .head) h)
+          → Is (cond x (cond y (announcing (adoptedOf (starTaken h s))) (unanswered (starTaken h s)) .head) h)
           (next (cond x (cond y (adopting (e .offer)) (pressing s)) nothing) (e .ear) e)
       go true true = adopted-is s
-      go true false = pressed-up s
+      go true false = pressed-is s
       go false y = idle-is h same
 
   -- what the checks ask of the head is what the account has
@@ -285,10 +282,10 @@ module _ (h : Head) (e : Entry) (A : Is h e) where
 
   told-is : (ten : List ℕ) (t : ℕ) (ear : past.Ear) → ear .bytes ≡ [] → Is (tellOf h ten t .head) (next (telling e ten) ear e)
   unfolding tellOf
-  told-is ten t ear none =
+  told-is ten t ear empty =
       changed (telling e ten) ear (tellOf h ten t .head)
       (rw (told-stored (judgedOf ten (standingOf h)) h t) (told-becomes ten (standingOf h) (h .stored) (e .number) (locked e) (A .size) number-is locked-is))
-      (told-none h ten t _ (elim (telling e ten .restarts) as (λ x. cond x noBytes ear .bytes ≡ []) [ true ↦ refl | false ↦ none ]))
+      (told-none h ten t _ (elim (telling e ten .restarts) as (λ x. cond x noBytes ear .bytes ≡ []) [ true ↦ refl | false ↦ empty ]))
       (told-keys (judgedOf ten (standingOf h)) h t ∙ rw (told-restarts ten (standingOf h) (e .number) (locked e) number-is locked-is, presses-none ten))
 
   heard-is : (b t : ℕ) → Is (stepOf h b t .head) (next (hearing e (gather (e .ear) b t)) (record { bytes = kept (gather (e .ear) b t); last = t }) e)
@@ -324,11 +321,28 @@ module _ (h : Head) (e : Entry) (A : Is h e) where
       go false p = idle-is h same
       go true p = stored-is s p
 
+  -- ---- an older head brought over: what an accepted write of 0 to 35h gives, at place 29
+  brought-values : (r : ℕ) → r < 39 → getD (broughtOf h .stored .values) r 0 ≡ look (gives 0x35 0 r) (getD (h .stored .values) r 0)
+  unfolding look
+  brought-values r lt = rw (gives-35 r lt) (go (eqb r 29) refl)
+    where
+      go : (b : Bool) → eqb r 29 ≡ b → getD (broughtOf h .stored .values) r 0 ≡ look (cond b (some 0) none) (getD (h .stored .values) r 0)
+      go true q = rw (eqb-true r 29 q) (brought h .retired)
+      go false q = brought h .values r (eqb-false r 29 q)
+
+  brought-is : Is (broughtOf h) (next (obeying 0x35 0) (e .ear) e)
+  unfolding look
+  brought-is =
+      let b = brought h in
+      changed (obeying 0x35 0) (e .ear) (broughtOf h)
+      (record { size = b .places; vals = brought-values; force = b .number; lock = b .unlocked; offer = b .offer }) (same-ear (broughtOf h) (b .ear)) (b .keys)
+
   ask-is : (a : Ask) → Is (askedOf a h) (next (asked a e) (e .ear) e)
   unfolding askedOf alone.own alone.next asked
   ask-is (measure m) = idle-is _ (either-keeps h (inReachOf m) (measuredOf h m) h (measure-keeps h m) same)
   ask-is power = cut-is (e .ear)
   ask-is (load s) = rw (guarded-is s h (loadedOf h s)) (load-is s)
+  ask-is bring = brought-is
 
   step-is : (c : Call) (n : ℕ) (ss : List ℕ) (k : ℕ) → Is (headBy c n ss k h) (entryBy c n ss k e)
   unfolding headBy change earBy

@@ -212,11 +212,16 @@ dropping-becomes : (st : parts.Stored) → Becomes st dropping (withOffer st 0)
 unfolding look
 dropping-becomes st = record { size = refl; vals = λ r lt. refl; force = refl; lock = refl; offer = refl }
 
-module _ (v w : ℕ) (st : parts.Stored) (full : length (st .values) ≡ 39) where
-  pub value-gives : (a i r : ℕ) → placeOf a ≡ At i → r < 39 → gives a v r ≡ cond (eqb r i) (some v) none
-  unfolding gives
-  value-gives a i r e lt = rw (value-same a i r e lt, value-system a i e)
+-- what a write gives a parameter, by its place; and one of 0 to 35h
+pub value-gives : (v a i r : ℕ) → placeOf a ≡ At i → r < 39 → gives a v r ≡ cond (eqb r i) (some v) none
+unfolding gives
+value-gives v a i r e lt = rw (value-same a i r e lt, value-system a i e)
 
+pub gives-35 : (r : ℕ) → r < 39 → gives 0x35 0 r ≡ cond (eqb r 29) (some 0) none
+unfolding placeOf rows
+gives-35 r lt = value-gives 0 0x35 29 r refl lt
+
+module _ (v w : ℕ) (st : parts.Stored) (full : length (st .values) ≡ 39) where
   none-gives : (a r : ℕ) → placeOf a ≡ Nowhere → eqb a 0xA0 ≡ false → r < 39 → gives a v r ≡ none
   unfolding gives
   none-gives a r e p lt = rw (nowhere-apart a r e lt, p)
@@ -258,7 +263,7 @@ module _ (v w : ℕ) (st : parts.Stored) (full : length (st .values) ≡ 39) whe
           rw (value-kind a i e)
           record {
             size = length-set (st .values) i v;
-            vals = λ r lt. rw (value-gives a i r e lt) (set-gives (st .values) i v r (omega arith));
+            vals = λ r lt. rw (value-gives v a i r e lt) (set-gives (st .values) i v r (omega arith));
             force = rw (value-system a i e);
             lock = rw (value-interlock a i e);
             offer = rw (value-system a i e, value-assignment a i e);

@@ -27,9 +27,14 @@ use Rattle.demands.specs.WrongSheets.{new, locked, Takes, Refuses, later
 use Rattle.demands.proofs.Computing.{computing}
 
 -- the number of a refusal, 0 for none
-abbrev tell : Option ℕ → ℕ
+abbrev pub tell : Option ℕ → ℕ
 tell none = 0
 tell (some n) = n
+
+-- a refusal has one
+pub refused-none : {why : Refusal} (a : Answer) → a ≡ Refused why → ofAnswer a ≡ none → ⊥
+refused-none Done e q = let z : _≡_ {A = ℕ} 0 1 = cc in omega arith
+refused-none (Refused w) e q = let z : _≡_ {A = ℕ} 0 1 = cc in omega arith
 
 -- what is refused, or not, and the number that the table gives
 module _ (m : System) (d : Demand1 m) where
@@ -55,11 +60,6 @@ module _ (m : System) where
   nothing-fails : Takes m new [] → Demand1 m → ⊥
   unfolding computing
   nothing-fails e d = let z : _≡_ {A = ℕ} 0 11 = taken m d [] new e in omega arith
-
-  -- a refusal has a number
-  refused-none : {why : Refusal} (a : Answer) → a ≡ Refused why → ofAnswer a ≡ none → ⊥
-  refused-none Done e q = let z : _≡_ {A = ℕ} 0 1 = cc in omega arith
-  refused-none (Refused w) e q = let z : _≡_ {A = ℕ} 0 1 = cc in omega arith
 
   no-row-fails : (why : Refusal) → Refuses m new (0 ∷ []) why → Demand1 m → ⊥
   unfolding computing
@@ -98,7 +98,7 @@ module _ (m : System) where
 
   idle-fails : Loads m nine new new → Sheets m → ⊥
   unfolding computing
-  idle-fails e d = let z : _≡_ {A = ℕ} 5 9 = rw e at (d .loads new nine (rw e) .values .rows 0 20 (omega arith) (omega arith) refl) in omega arith
+  idle-fails e d = let z : _≡_ {A = ℕ} 5 9 = rw e at (d .loads new nine (rw e) .values .rows 0 20 (omega arith) (omega arith) refl (λ q. omega arith)) in omega arith
 
   short-fails : m .onHead .save new 273 ≡ Done → Demand1 m → ⊥
   unfolding computing

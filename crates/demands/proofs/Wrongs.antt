@@ -198,7 +198,7 @@ module _ (m : System) where
   unfolding computing
   first-too-fails e d =
       let a = measure (pos 2) in
-      let t = d .line-asks two 1 a two-fits (omega arith) .0 in
+      let t = d .line-asks two 1 a (record { takes = two-fits .fits; places = two-fits .places }) (omega arith) .0 in
       let z : _≡_ {A = ℕ} 2 0 = ap (λ (h : Head). natAbs (h .measurement .m)) (rw (e a two 1) at (t .others 0 (λ i. omega arith))) in
       omega arith
 

@@ -1,5 +1,5 @@
--- What power, a tick, a measurement and a key state do to a head alone, in the sentences of document 01 and of document 02, requests (ii) and (ix): h is the head
--- before the call, k the head after it. Each part of a head has its sentence, that it is as it was among them.
+-- What power, a tick, a measurement, a key state and the call that brings an older head over do to a head alone, in the sentences of document 01 and of document 02, requests
+-- (ii), (ix) and (xii): h is the head before the call, k the head after it. Each part of a head has its sentence, that it is as it was among them.
 -- Assumes nothing.
 use Prim.Native.Nat.{ℕ, _*_, _/_, _%_, _≤_}
 use mathlib.Core.Path.{_≡_}
@@ -164,13 +164,9 @@ starGives h state = newly 2 h state && (displays h && eqb (setting h 35) 2)
 abbrev pub keyGives : Head → ℕ → Bool
 keyGives h state = leftGives h state || starGives h state
 
--- up newly pressed adopts the number that is offered, if one is
+-- up newly pressed adopts the number that is offered, if one is; else it does nothing
 abbrev pub adopts : Head → ℕ → Bool
 adopts h state = newly 4 h state && not (eqb (h .stored .offer) 0)
-
--- else it switches incremental if 35h is 1
-abbrev pub switches : Head → ℕ → Bool
-switches h state = newly 4 h state && eqb (setting h 29) 1
 
 -- a key state that adopts no number
 pub record Keyed (h k : Head) (state : ℕ) : Type 0 where
@@ -179,9 +175,9 @@ pub record Keyed (h k : Head) (state : ℕ) : Type 0 where
   -- calibration makes m the zero and adopts 1Fh
   pub zero : k .measurement .zero ≡ cond (calibrates h state) (h .measurement .m) (h .measurement .zero)
   pub adopted : k .measurement .adopted ≡ cond (calibrates h state) (setting h 19) (h .measurement .adopted)
-  -- incremental measurement starts from the m at switching on
-  pub incremental : k .measurement .incremental ≡ cond (switches h state) (not (h .measurement .incremental)) (h .measurement .incremental)
-  pub start : k .measurement .start ≡ cond (switches h state) (cond (h .measurement .incremental) (pos 0) (h .measurement .m)) (h .measurement .start)
+  -- no key switches incremental measurement
+  pub incremental : k .measurement .incremental ≡ h .measurement .incremental
+  pub start : k .measurement .start ≡ h .measurement .start
   pub m : k .measurement .m ≡ h .measurement .m
   pub frozen : k .measurement .frozen ≡ h .measurement .frozen
   pub kept : k .measurement .kept ≡ h .measurement .kept
@@ -231,6 +227,38 @@ pub record Announced (h : Head) (before after : List ℕ) : Type 0 where
   pub rest : drop 10 after ≡ drop 10 before
   pub passes : hitOf (take 10 after) ≡ 0
   pub fields : Announces (fieldsOf (take 10 after)) (h .stored .offer) (statusOf h)
+
+-- ---- an older head is one whose 35h, at place 29, is above 0, or that has incremental on
+abbrev pub older : Head → Bool
+older h = not (eqb (setting h 29) 0) || h .measurement .incremental
+
+-- it is brought over
+pub record Brought (h k : Head) : Type 0 where
+  -- its 35h becomes 0, and it returns to its absolute position: incremental is off, and its start 0
+  pub retired : setting k 29 ≡ 0
+  pub incremental : k .measurement .incremental ≡ false
+  pub start : older h ≡ true → k .measurement .start ≡ pos 0
+  -- all else is kept: the other 38, the number and the baud setting in force, the offer, the serial number, the interlock
+  pub values : (r : ℕ) → r ≢ 29 → setting k r ≡ setting h r
+  pub places : length (k .stored .values) ≡ length (h .stored .values)
+  pub number : k .stored .number ≡ h .stored .number
+  pub baud : k .stored .baud ≡ h .stored .baud
+  pub offer : k .stored .offer ≡ h .stored .offer
+  pub serial : k .stored .serial ≡ h .stored .serial
+  pub unlocked : k .stored .unlocked ≡ h .stored .unlocked
+  -- m, calibration and the frozen value, both lists with all that is kept of errors, the set points with the static bit, the monitor, the bytes gathered, the keys
+  pub m : k .measurement .m ≡ h .measurement .m
+  pub zero : k .measurement .zero ≡ h .measurement .zero
+  pub adopted : k .measurement .adopted ≡ h .measurement .adopted
+  pub frozen : k .measurement .frozen ≡ h .measurement .frozen
+  pub kept : k .measurement .kept ≡ h .measurement .kept
+  pub faults : k .faults ≡ h .faults
+  pub targets : k .targets ≡ h .targets
+  pub monitor : k .monitor ≡ h .monitor
+  pub ear : k .ear ≡ h .ear
+  pub keys : k .keys ≡ h .keys
+  -- a head that is no older one is as it was
+  pub unchanged : older h ≡ false → k ≡ h
 
 -- ---- a new head is as after a restart, its error memory empty: interlock closed, m, the zero and the adopted value 0, and the delivery values,
 -- of which that of 00h is the number given

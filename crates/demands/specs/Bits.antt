@@ -40,8 +40,8 @@ pub record Bits (h : Head) : Type 0 where
   pub bit6 : bitSet (statusOf h) 6 ≡ (not (displays h) && (h .targets .valid2 && ltZ (aimed h) (actual h)))
   pub bit7 : bitSet (statusOf h) 7 ≡ not (eqb (h .faults .pending) 0)
   pub bit8 : bitSet (statusOf h) 8 ≡ h .measurement .frozen
-  -- and 9 is bit 7 of the last taken control word: the set points are characters, and not numbers
-  pub bit9 : bitSet (statusOf h) 9 ≡ cond (displays h) (bitSet (h .targets .word) 7) (h .measurement .incremental)
+  -- and 9, which is 0 in every other mode (request (xii)), is bit 7 of the last taken control word: the set points are characters, and not numbers
+  pub bit9 : bitSet (statusOf h) 9 ≡ (displays h && bitSet (h .targets .word) 7)
   pub bit10 : bitSet (statusOf h) 10 ≡ h .targets .valid2
   -- all else 0
   pub bit11 : bitSet (statusOf h) 11 ≡ false

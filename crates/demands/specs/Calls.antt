@@ -6,11 +6,12 @@ use mathlib.Core.List.{List, [], _∷_}
 use lib.IntN.{ℤ}
 use lib.ListN.{getD}
 
--- what is asked of a head by its number, with no space lent: a measurement, power, a sheet loaded
+-- what is asked of a head by its number, with no space lent: a measurement, power, a sheet loaded, an older head brought over
 pub data Ask : Type 0 where
   measure : ℤ → Ask
   power : Ask
   load : List ℕ → Ask
+  bring : Ask
 
 -- grow by a node number and a serial number; a byte at a time, with so much space lent; a tick; a call that names a head; a key state of the head that is named, with so
 -- much space lent; a rack of no telegram at a time, at which each head drops the bytes it has gathered
@@ -33,6 +34,7 @@ abbrev pub IsSheet : Ask → Type 0
 IsSheet (measure m) = Unit {0}
 IsSheet power = Unit {0}
 IsSheet (load s) = (k : ℕ) → getD s k 0 < 256
+IsSheet bring = Unit {0}
 
 abbrev pub IsByte : Call → Type 0
 IsByte (newHead node serial) = Unit {0}

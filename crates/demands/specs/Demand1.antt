@@ -34,7 +34,7 @@ use Rattle.rack.specs.declared.Answer.the-variants as racked
 use Rattle.sheet.specs.Format.{wellFormedOf}
 use Rattle.demands.specs.Calls.{Call, newHead, byte, tick, named, keys, dropped}
 use Rattle.demands.specs.Past.{allStored, allRight}
-use Rattle.demands.specs.Twenty.{Twenty}
+use Rattle.demands.specs.Twenty.{takesHead, takesLine, Twenty}
 use Rattle.demands.specs.Run.{OnHead, OnLine, System, aloneOf, after}
 
 -- ---- the table of document 01, "The line, and calls refused": a number, and whether its clause holds
@@ -50,12 +50,13 @@ abbrev pub first : List Row → Option ℕ
 first [] = none
 first (r ∷ rs) = cond (r .holds) (some (r .number)) (first rs)
 
--- what a tick, a measurement, power and a sheet loaded are refused for on their own, on a head alone and on a line
+-- what a tick, a measurement, power, a sheet loaded and an older head brought over are refused for on their own, on a head alone and on a line
 abbrev pub ownRows : alone.Ask → List Row
 ownRows (alone.tick t) = []
 ownRows (alone.measure m) = row 4 (not (leZ (minus 2500000) m && leZ m (pos 2500000))) ∷ []
 ownRows alone.power = []
 ownRows (alone.load s) = row 11 (not (wellFormedOf s)) ∷ row 12 (not (allStored s)) ∷ row 13 (not (allRight s)) ∷ []
+ownRows alone.bring = []
 
 abbrev pub nodeRow : ℕ → Row
 nodeRow node = row 1 (not (leb 1 node && leb node 127))
@@ -71,9 +72,13 @@ keysRows s n = row 5 (ltb 7 s) ∷ spaceRow n ∷ []
 abbrev pub saveRows : ℕ → List Row
 saveRows n = row 14 (ltb n 274) ∷ []
 
--- a call that names a head, and one on a head alone, with the rows of its own
+-- a call that names a head, with the test of its line and the rows of its own, and one on a head alone; the one that brings a head over goes by the old row
+-- (document 02, request (xii)): Twenty
+abbrev pub rowsBy : Bool → Line → ℕ → List Row → List Row
+rowsBy takes l j own = row 20 (not takes) ∷ row 3 (leb (l .count) j) ∷ own
+
 abbrev pub namedRows : Line → ℕ → List Row → List Row
-namedRows l j own = row 20 (not (fitsOf l)) ∷ row 3 (leb (l .count) j) ∷ own
+namedRows l j own = rowsBy (fitsOf l) l j own
 
 abbrev pub headRows : Head → List Row → List Row
 headRows h own = row 20 (not (wellformedOf h)) ∷ own
@@ -89,7 +94,7 @@ abbrev pub rowsFor : Call → Line → List Row
 rowsFor (newHead node serial) l = row 20 (not (fitsOf l)) ∷ row 2 (leb 32 (l .count)) ∷ nodeRow node ∷ row 17 (among (serialsAt l) serial) ∷ []
 rowsFor (byte b t s) l = row 20 (not (fitsOf l)) ∷ spaceRow s ∷ []
 rowsFor (tick t) l = row 20 (not (fitsOf l)) ∷ ownRows (alone.tick t)
-rowsFor (named j a) l = namedRows l j (ownRows (aloneOf a))
+rowsFor (named j a) l = rowsBy (takesLine a l) l j (ownRows (aloneOf a))
 rowsFor (keys j s n) l = namedRows l j (keysRows s n)
 rowsFor (dropped t) l = rackRows l 0 0 0
 
@@ -97,7 +102,7 @@ rowsFor (dropped t) l = rackRows l 0 0 0
 abbrev pub rowsAlone : alone.Call → Head → List Row
 rowsAlone (alone.byte b t space) h = headRows h (spaceRow (length space) ∷ [])
 rowsAlone (alone.keys s space) h = headRows h (keysRows s (length space))
-rowsAlone (alone.asked a) h = headRows h (ownRows a)
+rowsAlone (alone.asked a) h = row 20 (not (takesHead a h)) ∷ ownRows a
 
 -- ---- the number that a call returns
 abbrev pub ofAnswer : Answer → Option ℕ

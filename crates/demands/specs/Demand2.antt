@@ -30,10 +30,11 @@ use Rattle.line.specs.declared.calls.Line.{Line}
 use Rattle.line.specs.Calls.{headAt}
 use Rattle.demands.specs.Calls.{Ask}
 use Rattle.demands.specs.Run.{System, withEar, aloneOf}
-use Rattle.demands.specs.Alone.{Taken, entries, entered, Restarted, Ticked, Measured, adopts, Keyed, Adopted, Announced, New}
+use Rattle.demands.specs.Alone.{Taken, entries, entered, Restarted, Ticked, Measured, adopts, Keyed, Adopted, Announced, Brought, New}
 use Rattle.demands.specs.Every.{Every}
 use Rattle.demands.specs.Bits.{Bits}
-use Rattle.demands.specs.Lines.{Fits, heardAlone, allReplies, Only, ToOne, Unused, Grown}
+use Rattle.demands.specs.Views.{Views}
+use Rattle.demands.specs.Lines.{Fits, FitsFor, heardAlone, allReplies, Only, ToOne, Unused, Grown}
 
 pub record Demand2 (m : System) : Type 0 where
   -- a byte that ends no telegram is gathered; no reply, no byte of the space changed, nothing else of the head
@@ -57,9 +58,10 @@ pub record Demand2 (m : System) : Type 0 where
       → hitOf (take 10 (m .onHead .space h b t space)) ≡ 0
   pub line-sound : (l : Line) (b t : ℕ) (space : List ℕ) → m .onLine .byte l b t (length space) .heard ≡ heard.Replies 1
       → hitOf (take 10 (m .onLine .space l b t space)) ≡ 0
-  -- what holds of every telegram: what a reply copies, its status word, and what is left as it was; and the bits of that word
+  -- what holds of every telegram: what a reply copies, its status word, and what is left as it was; the bits of that word; and what a head goes by and shows
   pub every : Every m
   pub bits : (h : Head) → Bits h
+  pub views : (h : Head) → Views h
   -- a telegram that is judged to restart the head leaves it as power does, and an obeyed write or broadcast of A0h 9 is judged so
   pub restarts : (h : Head) (b t : ℕ) (space : List ℕ) → Taken h space → gatheredOf (h .ear) b t .whole ≡ true
       → judgedOf (gatheredOf (h .ear) b t .ten) (standingOf h) .deed ≡ Restart
@@ -72,6 +74,8 @@ pub record Demand2 (m : System) : Type 0 where
   pub powers : (h : Head) → m .onHead .ask alone.power h .answer ≡ Done → Restarted h (m .onHead .ask alone.power h .head)
   pub ticks : (h : Head) (t : ℕ) → m .onHead .ask (alone.tick t) h .answer ≡ Done → Ticked h (m .onHead .ask (alone.tick t) h .head) t
   pub measures : (h : Head) (x : ℤ) → m .onHead .ask (alone.measure x) h .answer ≡ Done → Measured h (m .onHead .ask (alone.measure x) h .head) x
+  -- an older head brought over
+  pub brings : (h : Head) → m .onHead .ask alone.bring h .answer ≡ Done → Brought h (m .onHead .ask alone.bring h .head)
   -- a key state that adopts no number, with the space lent: no reply, and no byte of the space changed
   pub presses : (h : Head) (state : ℕ) (space : List ℕ) → Taken h space → state ≤ 7 → adopts h state ≡ false
       → Keyed h (m .onHead .keys h state (length space) .head) state
@@ -108,7 +112,7 @@ pub record Demand2 (m : System) : Type 0 where
       → ((k : ℕ) → k < l .count → headAt (m .onLine .tick l t .line) k ≡ m .onHead .ask (alone.tick t) (headAt l k) .head)
       × (m .onLine .tick l t .answer ≡ Done)
       × (m .onLine .tick l t .line .count ≡ l .count)
-  pub line-asks : (l : Line) (i : ℕ) (a : Ask) → Fits l → i < l .count
+  pub line-asks : (l : Line) (i : ℕ) (a : Ask) → FitsFor a l → i < l .count
       → ToOne l i (m .onLine .ask a l i .line) (m .onHead .ask (aloneOf a) (headAt l i) .head)
       × (m .onLine .ask a l i .answer ≡ m .onHead .ask (aloneOf a) (headAt l i) .answer)
   pub line-presses : (l : Line) (i s : ℕ) (space : List ℕ) → Fits l → i < l .count

@@ -7,6 +7,7 @@ pub mod Acts
 pub mod Every
 pub mod Words
 pub mod Bits
+pub mod Views
 pub mod Twenty
 pub mod Demand1
 pub mod Demand2
@@ -20,6 +21,7 @@ pub mod Serials
 pub mod Stretches
 pub mod Racks
 pub mod Turns
+pub mod Retired
 pub mod WrongHits
 pub mod WrongOffers
 pub mod WrongWords
@@ -29,6 +31,8 @@ pub mod WrongSerials
 pub mod WrongStretches
 pub mod WrongRacks
 pub mod RackCases
+pub mod OlderCases
+pub mod WrongOlder
 pub mod Ordered
 pub mod Proposed
 pub mod Wrong

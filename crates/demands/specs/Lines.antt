@@ -15,11 +15,17 @@ use Rattle.head.specs.declared.calls.Heard.the-variants.{Replies, Refused}
 use Rattle.line.specs.declared.calls.Line.{Line}
 use Rattle.line.specs.declared.calls.Called.{Called}
 use Rattle.line.specs.Calls.{fitsOf, headAt}
+use Rattle.demands.specs.Calls.{Ask}
+use Rattle.demands.specs.Twenty.{takesLine}
 use Rattle.demands.specs.Run.{OnHead}
 
--- a line that no call refuses with 20; that it has 32 places is its type's
+-- a line that no call refuses with 20; that it has 32 places is its type's; and one that a call which names a head does not refuse with 20
 pub record Fits (l : Line) : Type 0 where
   pub fits : fitsOf l ≡ true
+  pub places : length (l .heads) ≡ 32
+
+pub record FitsFor (a : Ask) (l : Line) : Type 0 where
+  pub takes : takesLine a l ≡ true
   pub places : length (l .heads) ≡ 32
 
 -- ---- a byte that head k hears alone, with the space that is lent to the line

@@ -30,6 +30,7 @@ use Rattle.judge.proofs.verdict as judge-verdict
 use Rattle.state.proofs.errors as state-errors
 use Rattle.state.proofs.position as state-position
 use Rattle.state.proofs.mode as state-mode
+use Rattle.state.proofs.older as state-older
 use Rattle.state.proofs.status as state-status
 use Rattle.state.proofs.wellformed as state-wellformed
 use Rattle.effects.proofs.aim as effects-aim
@@ -86,7 +87,6 @@ pub record Outcomes : Type 0 where
   pub signed-difference : One signed.difference.Kinds.ps signed.difference.Kinds.r signed.difference.Reads.Post
   pub signed-differential : One signed.differential.Kinds.ps signed.differential.Kinds.r signed.differential.Reads.Post
   pub signed-absolute : One signed.absolute.Kinds.ps signed.absolute.Kinds.r signed.absolute.Reads.Post
-  pub signed-relative : One signed.relative.Kinds.ps signed.relative.Kinds.r signed.relative.Reads.Post
   pub rows-access-access-of : One rows-access.access_of.Kinds.ps rows-access.access_of.Kinds.r rows-access.access_of.Reads.Post
   pub rows-access-broadcast : One rows-access.broadcast.Kinds.ps rows-access.broadcast.Kinds.r rows-access.broadcast.Reads.Post
   pub rows-kind-kind-of : One rows-kind.kind_of.Kinds.ps rows-kind.kind_of.Kinds.r rows-kind.kind_of.Reads.Post
@@ -116,6 +116,8 @@ pub record Outcomes : Type 0 where
   pub state-errors-remembered : One state-errors.remembered.Kinds.ps state-errors.remembered.Kinds.r state-errors.remembered.Reads.Post
   pub state-errors-entry : One state-errors.entry.Kinds.ps state-errors.entry.Kinds.r state-errors.entry.Reads.Post
   pub state-mode-is-display : One state-mode.is_display.Kinds.ps state-mode.is_display.Kinds.r state-mode.is_display.Reads.Post
+  pub state-older-passes : One state-older.passes.Kinds.ps state-older.passes.Kinds.r state-older.passes.Reads.Post
+  pub state-older-brought : One state-older.brought.Kinds.ps state-older.brought.Kinds.r state-older.brought.Reads.Post
   pub state-position-position : One state-position.position.Kinds.ps state-position.position.Kinds.r state-position.position.Reads.Post
   pub state-position-view : One state-position.view.Kinds.ps state-position.view.Kinds.r state-position.view.Reads.Post
   pub state-status-aim : One state-status.aim.Kinds.ps state-status.aim.Kinds.r state-status.aim.Reads.Post
@@ -136,7 +138,6 @@ pub record Outcomes : Type 0 where
   pub effects-errors-restarted : One effects-errors.restarted.Kinds.ps effects-errors.restarted.Kinds.r effects-errors.restarted.Reads.Post
   pub effects-errors-faults-by : One effects-errors.faults_by.Kinds.ps effects-errors.faults_by.Kinds.r effects-errors.faults_by.Reads.Post
   pub effects-measure-calibrated : One effects-measure.calibrated.Kinds.ps effects-measure.calibrated.Kinds.r effects-measure.calibrated.Reads.Post
-  pub effects-measure-switched : One effects-measure.switched.Kinds.ps effects-measure.switched.Kinds.r effects-measure.switched.Reads.Post
   pub effects-measure-restarted : One effects-measure.restarted.Kinds.ps effects-measure.restarted.Kinds.r effects-measure.restarted.Reads.Post
   pub effects-measure-moved : One effects-measure.moved.Kinds.ps effects-measure.moved.Kinds.r effects-measure.moved.Reads.Post
   pub effects-measure-measurement-by : One effects-measure.measurement_by.Kinds.ps effects-measure.measurement_by.Kinds.r effects-measure.measurement_by.Reads.Post
@@ -157,6 +158,7 @@ pub record Outcomes : Type 0 where
   pub head-calls-measure : One head-calls.measure.Kinds.ps head-calls.measure.Kinds.r head-calls.measure.Reads.Post
   pub head-calls-keys : One head-calls.keys.Kinds.ps head-calls.keys.Kinds.r head-calls.keys.Reads.Post
   pub head-calls-power : One head-calls.power.Kinds.ps head-calls.power.Kinds.r head-calls.power.Reads.Post
+  pub head-calls-bring : One head-calls.bring.Kinds.ps head-calls.bring.Kinds.r head-calls.bring.Reads.Post
   pub head-calls-last-hit : One head-calls.last_hit.Kinds.ps head-calls.last_hit.Kinds.r head-calls.last_hit.Reads.Post
   pub head-calls-serial-number : One head-calls.serial_number.Kinds.ps head-calls.serial_number.Kinds.r head-calls.serial_number.Reads.Post
   pub head-calls-load : One head-calls.load.Kinds.ps head-calls.load.Kinds.r head-calls.load.Reads.Post
@@ -184,6 +186,7 @@ pub record Outcomes : Type 0 where
   pub line-calls-measure : One line-calls.measure.Kinds.ps line-calls.measure.Kinds.r line-calls.measure.Reads.Post
   pub line-calls-keys : One line-calls.keys.Kinds.ps line-calls.keys.Kinds.r line-calls.keys.Reads.Post
   pub line-calls-power : One line-calls.power.Kinds.ps line-calls.power.Kinds.r line-calls.power.Reads.Post
+  pub line-calls-bring : One line-calls.bring.Kinds.ps line-calls.bring.Kinds.r line-calls.bring.Reads.Post
   pub line-calls-last-hit : One line-calls.last_hit.Kinds.ps line-calls.last_hit.Kinds.r line-calls.last_hit.Reads.Post
   pub line-calls-serial-number : One line-calls.serial_number.Kinds.ps line-calls.serial_number.Kinds.r line-calls.serial_number.Reads.Post
   pub line-calls-load : One line-calls.load.Kinds.ps line-calls.load.Kinds.r line-calls.load.Reads.Post

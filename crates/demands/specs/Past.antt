@@ -19,7 +19,7 @@ use Rattle.rows.specs.Access.{stored, accessOf}
 use Rattle.rows.specs.Ranges.{rangeOf, isRight}
 use Rattle.sheet.specs.Each.{each}
 use Rattle.sheet.specs.Format.{countOf, addressOf, valueOf, wellFormedOf}
-use Rattle.demands.specs.Calls.{Ask, measure, power, load, Call, newHead, byte, tick, named, keys, dropped, Calls, start, _▸_}
+use Rattle.demands.specs.Calls.{Ask, measure, power, load, bring, Call, newHead, byte, tick, named, keys, dropped, Calls, start, _▸_}
 
 -- ---- what is kept
 -- the bytes that stand gathered, and when the last was heard
@@ -191,12 +191,16 @@ telling e ten =
 unfoldable pub hearing : Entry → List ℕ → Change
 hearing e l = cond (ltb (length l) 10) nothing (telling e l)
 
--- ---- a sheet is loaded, whatever the interlock: it is accepted where it is one, each address is one of the 39, and each value is right there
+-- ---- a sheet is loaded, whatever the interlock: it is accepted where it is one, each address is one of the 39, and each value is right there; 35h at 1, as a sheet
+-- of an older head may have it, is a write of 0
 abbrev pub allStored : List ℕ → Bool
 allStored s = each (λ i. among stored (addressOf s i)) (countOf s)
 
+abbrev pub meant : List ℕ → ℕ → ℕ
+meant s i = cond (eqb (addressOf s i) 0x35 && eqb (valueOf s i) 1) 0 (valueOf s i)
+
 abbrev pub allRight : List ℕ → Bool
-allRight s = each (λ i. isRight (rangeOf (addressOf s i) (valueOf s i))) (countOf s)
+allRight s = each (λ i. isRight (rangeOf (addressOf s i) (meant s i))) (countOf s)
 
 unfoldable pub loadable : List ℕ → Bool
 loadable s = wellFormedOf s && (allStored s && allRight s)
@@ -208,7 +212,7 @@ orElse none before = before
 
 abbrev pub written : List ℕ → ℕ → ℕ → Option ℕ
 written s zero r = none
-written s (suc n) r = orElse (gives (addressOf s n) (valueOf s n) r) (written s n r)
+written s (suc n) r = orElse (gives (addressOf s n) (meant s n) r) (written s n r)
 
 abbrev pub storing : List ℕ → Change
 storing s = record { gives = λ r. written s (countOf s) r; restarts = false; opens = none; offers = none; presses = none }
@@ -216,7 +220,7 @@ storing s = record { gives = λ r. written s (countOf s) r; restarts = false; op
 unfoldable pub loaded : List ℕ → Change
 loaded s = cond (loadable s) (storing s) nothing
 
--- ---- a head is asked by its number; power is cut
+-- ---- a head is asked by its number; power is cut; an older head is brought over, which is an accepted write of 0 to 35h
 abbrev pub cutting : Change
 cutting = record { gives = λ r. none; restarts = true; opens = none; offers = none; presses = none }
 
@@ -224,6 +228,7 @@ unfoldable pub asked : Ask → Entry → Change
 asked (measure m) e = nothing
 asked power e = cutting
 asked (load s) e = loaded s
+asked bring e = obeying 0x35 0
 
 -- ---- keys: the key state is taken, where it is 7 at most and ten bytes are lent; up, with weight 4, is newly pressed where it is down and was not
 abbrev pub upPressed : ℕ → ℕ → Bool

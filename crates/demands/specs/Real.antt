@@ -83,6 +83,7 @@ pub record Real (m : System) : Type 0 where
   pub measure-asks : AsksNothing head-calls.measure.Kinds.ps head-calls.measure.Reads.Asked
   pub keys-asks : AsksNothing head-calls.keys.Kinds.ps head-calls.keys.Reads.Asked
   pub power-asks : AsksNothing head-calls.power.Kinds.ps head-calls.power.Reads.Asked
+  pub bring-asks : AsksNothing head-calls.bring.Kinds.ps head-calls.bring.Reads.Asked
   pub last-hit-asks : AsksNothing head-calls.last_hit.Kinds.ps head-calls.last_hit.Reads.Asked
   pub serial-number-asks : AsksNothing head-calls.serial_number.Kinds.ps head-calls.serial_number.Reads.Asked
   pub load-asks : AsksNothing head-calls.load.Kinds.ps head-calls.load.Reads.Asked
@@ -99,6 +100,7 @@ pub record Real (m : System) : Type 0 where
   pub line-measure-asks : AsksNothing line-calls.measure.Kinds.ps line-calls.measure.Reads.Asked
   pub line-keys-asks : AsksNothing line-calls.keys.Kinds.ps line-calls.keys.Reads.Asked
   pub line-power-asks : AsksNothing line-calls.power.Kinds.ps line-calls.power.Reads.Asked
+  pub line-bring-asks : AsksNothing line-calls.bring.Kinds.ps line-calls.bring.Reads.Asked
   pub line-last-hit-asks : AsksNothing line-calls.last_hit.Kinds.ps line-calls.last_hit.Reads.Asked
   pub line-serial-number-asks : AsksNothing line-calls.serial_number.Kinds.ps line-calls.serial_number.Reads.Asked
   pub line-load-asks : AsksNothing line-calls.load.Kinds.ps line-calls.load.Reads.Asked
@@ -118,6 +120,7 @@ pub record Real (m : System) : Type 0 where
       (y ≡ m .onHead .keys (a .0) (a .1 .0) (length (now (a .1 .1 .0))))
       × (now (s .1 .1 .0) ≡ m .onHead .keySpace (a .0) (a .1 .0) (now (a .1 .1 .0))))
   pub power : Gives head-calls.power.Kinds.ps head-calls.power.Kinds.r head-calls.power.Reads.Post (λ κs a. m .onHead .ask alone.power (a .0))
+  pub bring : Gives head-calls.bring.Kinds.ps head-calls.bring.Kinds.r head-calls.bring.Reads.Post (λ κs a. m .onHead .ask alone.bring (a .0))
   -- a sheet loaded; a sheet written: the result, and the lent space as it is left
   pub load : Gives head-calls.load.Kinds.ps head-calls.load.Kinds.r head-calls.load.Reads.Post (λ κs a. m .onHead .ask (alone.load (now (a .1 .0))) (a .0))
   pub save : Says head-calls.save.Kinds.ps head-calls.save.Kinds.r head-calls.save.Reads.Post (λ κs a y s.
@@ -147,6 +150,7 @@ pub record Real (m : System) : Type 0 where
       (y ≡ m .onLine .keys (a .0) (a .1 .0) (a .1 .1 .0) (length (now (a .1 .1 .1 .0))))
       × (now (s .1 .1 .1 .0) ≡ m .onLine .keySpace (a .0) (a .1 .0) (a .1 .1 .0) (now (a .1 .1 .1 .0))))
   pub line-power : Gives line-calls.power.Kinds.ps line-calls.power.Kinds.r line-calls.power.Reads.Post (λ κs a. m .onLine .ask calls.power (a .0) (a .1 .0))
+  pub line-bring : Gives line-calls.bring.Kinds.ps line-calls.bring.Kinds.r line-calls.bring.Reads.Post (λ κs a. m .onLine .ask calls.bring (a .0) (a .1 .0))
   pub line-last-hit : Gives line-calls.last_hit.Kinds.ps line-calls.last_hit.Kinds.r line-calls.last_hit.Reads.Post (λ κs a. m .onLine .hit (a .0) (a .1 .0))
   pub line-serial-number : Gives line-calls.serial_number.Kinds.ps line-calls.serial_number.Kinds.r line-calls.serial_number.Reads.Post (λ κs a. m .onLine .serial (a .0) (a .1 .0))
   pub line-load : Gives line-calls.load.Kinds.ps line-calls.load.Kinds.r line-calls.load.Reads.Post (λ κs a. m .onLine .ask (calls.load (now (a .1 .1 .0))) (a .0) (a .1 .0))
@@ -171,6 +175,7 @@ pub record Plain (m : System) : Type 0 where
   pub measured : (x : ℤ) → aloneOf (calls.measure x) ≡ alone.measure x
   pub powered : aloneOf calls.power ≡ alone.power
   pub loaded : (s : List ℕ) → aloneOf (calls.load s) ≡ alone.load s
+  pub brought : aloneOf calls.bring ≡ alone.bring
 
 -- Of a sheet, by the definitions that the promises about sheets speak of (Sheets `Formed`, `Functions`; the crate sheet, `HandsOut`, `Steps`): any bytes may be tested, read,
 -- checked and loaded, and any space be written on.

@@ -21,13 +21,13 @@ use Rattle.head.specs.Outcome as alone
 use Rattle.line.specs.declared.calls.Line.{Line}
 use Rattle.line.specs.declared.calls.Called.{Called}
 use Rattle.line.specs.declared.calls.Fed.{Fed}
-use Rattle.line.specs.Calls.{emptyOf, headAt, fitsOf, growOf, byteOf, byteSpaceOf, tickOf, measureOf, keysOf, keysSpaceOf, powerOf, lastHitOf, loadOf, saveOf, saveSpaceOf, serialNumberOf}
+use Rattle.line.specs.Calls.{emptyOf, headAt, fitsOf, growOf, byteOf, byteSpaceOf, tickOf, measureOf, keysOf, keysSpaceOf, powerOf, lastHitOf, loadOf, saveOf, saveSpaceOf, serialNumberOf, bringOf}
 use Rattle.rack.specs.declared.Racked.{Racked}
 use Rattle.rack.specs.Rack.{rackOf, rackSpaceOf}
-use Rattle.demands.specs.Calls.{Ask, measure, power, load, Call, newHead, byte, tick, named, keys, dropped, Calls, start, _▸_}
+use Rattle.demands.specs.Calls.{Ask, measure, power, load, bring, Call, newHead, byte, tick, named, keys, dropped, Calls, start, _▸_}
 
 -- ---- the calls on a head alone: it is made with a node number and a serial number; a byte, by its time and the length of the space lent, and the space after it;
--- a tick, a measurement, power, a sheet loaded; what the last damaged telegram was hit by; a key state, by the length of the space lent, and the
+-- a tick, a measurement, power, a sheet loaded, an older head brought over; what the last damaged telegram was hit by; a key state, by the length of the space lent, and the
 -- space after it; a sheet written, by the length of the space lent, and the space after it; its serial number
 pub record OnHead : Type 0 where
   pub make : ℕ → ℕ → head-Called.Called
@@ -68,6 +68,7 @@ unfoldable pub askOf : Ask → Line → ℕ → Called
 askOf (measure m) l j = measureOf l j m
 askOf power l j = powerOf l j
 askOf (load s) l j = loadOf l j s
+askOf bring l j = bringOf l j
 
 abbrev pub product : System
 product =
@@ -106,6 +107,7 @@ abbrev pub aloneOf : Ask → alone.Ask
 aloneOf (measure m) = alone.measure m
 aloneOf power = alone.power
 aloneOf (load s) = alone.load s
+aloneOf bring = alone.bring
 
 -- the line after a call
 unfoldable pub after : OnLine → Call → Line → Line

@@ -1,6 +1,6 @@
--- Sentences of document 01, and of document 02, requests (ii), (iii) and (ix), each tried at a head made with 31, many of which no law states: what is put to it, and
+-- Sentences of document 01, and of document 02, requests (ii), (iii), (ix) and (xii), each tried at a head made with 31, many of which no law states: what is put to it, and
 -- all that it replies. Telegrams that a wrong definition would answer otherwise: the errors that others made, the codes, the lists, freezing, calibration,
--- the status word, the resets, Auto-ID, alpha-numeric display.
+-- the status word, the resets, Auto-ID, alpha-numeric display, incremental measurement retired.
 -- Assumes nothing.
 use Prim.Native.Nat.{ℕ}
 use mathlib.Core.Path.{_≡_}
@@ -75,10 +75,10 @@ sentences =
     -- 0Bh and 33h: A and FEh
     ∷ told (asked (measure (pos 12345)) ∷ hears 0 0x011F0B00000000000217 ∷ hears 0 0x001FFE000000000000E1 ∷ hears 0 0x001FFC000000000000E3 ∷ hears 0 0x011F330000000000012C ∷ hears 0 0x001FFE000000000000E1 ∷ hears 0 0x001FFC000000000000E3 ∷ hears 0 0x011F330000000000022F ∷ hears 0 0x001FFE000000000000E1 ∷ hears 0 0x001FFC000000000000E3 ∷ [])
     (0x011F0B00000000000217 ∷ 0x001FFE00000000007B9A ∷ 0x001FFC00000000007B98 ∷ 0x011F330000000000012C ∷ 0x001FFE000000003039E8 ∷ 0x001FFC00000000007B98 ∷ 0x011F330000000000022F ∷ 0x001FFE000000003039E8 ∷ 0x001FFC000000003039EA ∷ [])
-    -- status bits: valid 10 and 2; 5 within 20h, 3 within 31h, 6 above, 0 and 1 by 1Bh; 4 static, which FAh's read and control bit 4 clear; 9
-    -- incremental, 13 to 15 keys
+    -- status bits: valid 10 and 2; 5 within 20h, 3 within 31h, 6 above, 0 and 1 by 1Bh; 4 static, which FAh's read and control bit 4 clear; 9 is
+    -- 0, 13 to 15 keys
     ∷ told (hears 0 0x011FFF02000000006487 ∷ hears 0 0x011F310000000000321D ∷ hears 0 0x001FFA000000000000E5 ∷ asked (measure (pos 60)) ∷ hears 0 0x001FFA000000000000E5 ∷ asked (measure (pos 98)) ∷ hears 0 0x001FFA000000000000E5 ∷ hears 0 0x001FFA000000000000E5 ∷ asked (measure (pos 130)) ∷ hears 0 0x001FFA000000000000E5 ∷ hears 0 0x011F1B00000000000104 ∷ hears 0 0x001FFA000000000000E5 ∷ asked (measure (pos 100)) ∷ hears 0 0x011FFB001000000000F5 ∷ hears 0 0x001FFA000000000000E5 ∷ presses 6 ∷ hears 0 0x001FFA000000000000E5 ∷ asked (measure (pos 130)) ∷ hears 0 0x001FFE000000000000E1 ∷ presses 0 ∷ hears 0 0x001FFA000000000000E5 ∷ [])
-    (0x011FFF00000000006485 ∷ 0x011F3104010000003218 ∷ 0x001FFA040100000401E5 ∷ 0x001FFA040900000409E5 ∷ 0x001FFA043800000438E5 ∷ 0x001FFA042800000428E5 ∷ 0x001FFA044A0000044AE5 ∷ 0x011F1B04490000000149 ∷ 0x001FFA044900000449E5 ∷ 0x011FFB043800000000D9 ∷ 0x001FFA042800000428E5 ∷ 0x001FFAC6020000C602E5 ∷ 0x001FFEC6020000001E3B ∷ 0x001FFA060200000602E5 ∷ [])
+    (0x011FFF00000000006485 ∷ 0x011F3104010000003218 ∷ 0x001FFA040100000401E5 ∷ 0x001FFA040900000409E5 ∷ 0x001FFA043800000438E5 ∷ 0x001FFA042800000428E5 ∷ 0x001FFA044A0000044AE5 ∷ 0x011F1B04490000000149 ∷ 0x001FFA044900000449E5 ∷ 0x011FFB043800000000D9 ∷ 0x001FFA042800000428E5 ∷ 0x001FFAC4280000C428E5 ∷ 0x001FFEC44900000082EE ∷ 0x001FFA044900000449E5 ∷ [])
     -- A0h 2 resets all but the bus six, 5 the bus six, 1 all; 00h to 31; A0h may be broadcast
     ∷ told (hears 0 0x011F010000000000021D ∷ hears 0 0x011F0400000000000913 ∷ hears 0 0x011FA0000000000002BC ∷ hears 0 0x001F010000000000001E ∷ hears 0 0x001F040000000000001B ∷ hears 0 0x011F0400000000000913 ∷ hears 0 0x011FA0000000000005BB ∷ hears 0 0x001F010000000000001E ∷ hears 0 0x001F040000000000001B ∷ hears 0 0x0200A0000000000001A3 ∷ hears 0 0x001F040000000000001B ∷ hears 0 0x011F0000000000000C12 ∷ hears 0 0x011FA0000000000005BB ∷ hears 0 0x001F000000000000001F ∷ [])
     (0x011F010000000000021D ∷ 0x011F0400000000000913 ∷ 0x011FA0000000000002BC ∷ 0x001F010000000000021C ∷ 0x001F040000000000051E ∷ 0x011F0400000000000913 ∷ 0x011FA0000000000005BB ∷ 0x001F010000000000011F ∷ 0x001F0400000000000912 ∷ 0x001F040000000000051E ∷ 0x011F0000000000000C12 ∷ 0x011FA0000000000005BB ∷ 0x001F0000000000001F00 ∷ [])
@@ -89,18 +89,17 @@ sentences =
     -- in force at once
     ∷ told (hears 0 0x011FD2000000000005C9 ∷ presses 4 ∷ hears 0 0x00050000000000000005 ∷ hears 0 0x001F000000000000001F ∷ [])
     (0x011FD2000000000005C9 ∷ 0x00050000000000000500 ∷ [])
-    -- whatever 35h says; left comes first, and the calibration survives the restart
-    ∷ told (asked (measure (pos 100)) ∷ hears 0 0x011F1F00000000000706 ∷ hears 0 0x011F350000000000002B ∷ hears 0 0x011FD2000000000009C5 ∷ presses 5 ∷ hears 0 0x0009FE000000000000F7 ∷ hears 0 0x0009FA000000000000F3 ∷ [])
-    (0x011F1F00000000000706 ∷ 0x011F350000000000002B ∷ 0x011FD2000000000009C5 ∷ 0x0009FE000000000007F0 ∷ 0x0009FA000000000000F3 ∷ [])
-    -- a key that is held down adopts nothing; the status word is that of before the call, and incremental is not switched, but cleared; a key still held
-    -- down then counts as newly pressed
-    ∷ told (presses 4 ∷ hears 0 0x011FD2000000000005C9 ∷ presses 4 ∷ presses 0 ∷ presses 4 ∷ hears 0 0x0005FA000000000000FF ∷ presses 4 ∷ hears 0 0x0005FA000000000000FF ∷ [])
-    (0x011FD2020000000005CB ∷ 0x0005FA000000000000FF ∷ 0x0005FA820000008200FF ∷ [])
-    -- a number outside 1..31 is refused and drops the offer: up switches incremental then
+    -- left comes first, and the calibration survives the restart
+    ∷ told (asked (measure (pos 100)) ∷ hears 0 0x011F1F00000000000706 ∷ hears 0 0x011FD2000000000009C5 ∷ presses 5 ∷ hears 0 0x0009FE000000000000F7 ∷ hears 0 0x0009FA000000000000F3 ∷ [])
+    (0x011F1F00000000000706 ∷ 0x011FD2000000000009C5 ∷ 0x0009FE000000000007F0 ∷ 0x0009FA000000000000F3 ∷ [])
+    -- a key that is held down adopts nothing; the status word is that of before the call; a key still held down then counts as newly pressed
+    ∷ told (presses 4 ∷ hears 0 0x011FD200000000001FD3 ∷ presses 4 ∷ presses 2 ∷ presses 6 ∷ hears 0 0x011FD2000000000005C9 ∷ presses 4 ∷ hears 0 0x0005FA000000000000FF ∷ [])
+    (0x011FD240000000001F93 ∷ 0x011FD2000000000005C9 ∷ 0x0005FA000000000000FF ∷ [])
+    -- a number outside 1..31 is refused and drops the offer: up does nothing then
     ∷ told (hears 0 0x011FD2000000000005C9 ∷ hears 0 0x011FD2000000000000CC ∷ presses 4 ∷ hears 0 0x001FFA000000000000E5 ∷ [])
-    (0x011FFD00000000018260 ∷ 0x001FFA820000008200E5 ∷ [])
+    (0x011FFD00000000018260 ∷ 0x001FFA800000008000E5 ∷ [])
     ∷ told (hears 0 0x011FD2000000000005C9 ∷ hears 0 0x011FD2000000000020EC ∷ presses 4 ∷ hears 0 0x001FFA000000000000E5 ∷ [])
-    (0x011FFD00000000028263 ∷ 0x001FFA820000008200E5 ∷ [])
+    (0x011FFD00000000028263 ∷ 0x001FFA800000008000E5 ∷ [])
     -- a read is 02 84, a broadcast silent, a damaged one 00 80: none of them drops the offer, and two enter the input list
     ∷ told (hears 0 0x011FD2000000000005C9 ∷ hears 0 0x001FD2000000000000CD ∷ hears 0 0x021FD2000000000000CF ∷ hears 0 0x011FD2000000000000CD ∷ hears 0 0x001F9600000000000089 ∷ presses 4 ∷ [])
     (0x001FFD00000000028464 ∷ 0x011FFD00000000008063 ∷ 0x001F960000000000028B ∷ 0x011FD2000000000005C9 ∷ [])
@@ -139,7 +138,13 @@ sentences =
     -- a sheet enters, too, and leaves; 3 over 3 is no change; the characters stay
     ∷ told (hears 0 0x011FFF020000000000E3 ∷ hears 0 0x001F200000000000003F ∷ asked (load (split 8 0x0128000400000003)) ∷ hears 0 0x001F200000000000003F ∷ hears 0 0x011FFB00844A4F423711 ∷ asked (load (split 8 0x0128000400000003)) ∷ hears 0 0x001F200000000000003F ∷ asked (load (split 8 0x0128000400000000)) ∷ hears 0 0x001F200000000000003F ∷ hears 0 0x001FFB000000000000E4 ∷ [])
     (0x011FFF000000000000E1 ∷ 0x001F2004380000000506 ∷ 0x001F200000000000053A ∷ 0x011FFB00004A4F423795 ∷ 0x001F200204000000053C ∷ 0x001F200000000000053A ∷ 0x001FFB00004A4F423794 ∷ [])
-    -- up switches incremental as before, which bit 9 does not show there; the 03h answer and FCh go on
-    ∷ told (hears 0 0x011F2800000000000335 ∷ presses 4 ∷ hears 0 0x001FFA000000000000E5 ∷ presses 0 ∷ asked (measure (pos 20)) ∷ hears 0 0x011F030000000000021F ∷ hears 0 0x011FFF02000000006487 ∷ hears 0 0x001FFC000000000000E3 ∷ hears 0 0x011F2800000000000036 ∷ [])
-    (0x011F2800000000000335 ∷ 0x001FFA800000008000E5 ∷ 0x011F030000000000021F ∷ 0x011FFF0000FFFFFFB0AE ∷ 0x001FFC0400FFFFFFB0A8 ∷ 0x011F2802000000000034 ∷ [])
+    -- up does nothing there either; the 03h answer and FCh go on
+    ∷ told (asked (measure (pos 5)) ∷ hears 0 0x011F2800000000000335 ∷ presses 4 ∷ hears 0 0x001FFA000000000000E5 ∷ presses 0 ∷ asked (measure (pos 20)) ∷ hears 0 0x011F030000000000021F ∷ hears 0 0x011FFF02000000006487 ∷ hears 0 0x001FFC000000000000E3 ∷ hears 0 0x011F2800000000000036 ∷ [])
+    (0x011F2800000000000335 ∷ 0x001FFA800000008000E5 ∷ 0x011F030000000000021F ∷ 0x011FFF0000FFFFFFB0AE ∷ 0x001FFC0400FFFFFFB0A8 ∷ 0x011F2800000000000036 ∷ [])
+    -- document 02, request (xii): 35h reads 0, takes 0, and answers 1 and more with 02 82, whatever bits; a reset leaves it 0; locked it is 03 85 first
+    ∷ told (hears 0 0x001F350000000000002A ∷ hears 0 0x011F350000000000002B ∷ hears 0 0x011F350000000000012A ∷ hears 0 0x011F3500000000000229 ∷ hears 0 0x011F350000FFFFFFFF2B ∷ hears 0 0x011FA0000000000001BF ∷ hears 0 0x001F350000000000002A ∷ hears 0 0x011FA0000000000002BC ∷ hears 0 0x001F350000000000002A ∷ hears 0 0x011F0E00000000000111 ∷ hears 0 0x011F350000000000012A ∷ [])
+    (0x001F350000000000002A ∷ 0x011F350000000000002B ∷ 0x011FFD00000000028263 ∷ 0x011FFD00000000028263 ∷ 0x011FFD00000000028263 ∷ 0x011FA0000000000001BF ∷ 0x001F350000000000002A ∷ 0x011FA0000000000002BC ∷ 0x001F350000000000002A ∷ 0x011F0E00000000000111 ∷ 0x011FFD00000000038565 ∷ [])
+    -- up leaves the position absolute and bit 9 0
+    ∷ told (asked (measure (pos 1000)) ∷ presses 4 ∷ asked (measure (pos 1500)) ∷ hears 0 0x001FFE000000000000E1 ∷ presses 0 ∷ presses 4 ∷ hears 0 0x001FFE000000000000E1 ∷ [])
+    (0x001FFE8000000005DCB8 ∷ 0x001FFE8000000005DCB8 ∷ [])
     ∷ []

@@ -36,12 +36,14 @@ use Rattle.demands.specs.Alone.{Turned}
 use Rattle.demands.specs.Lines.{Fits}
 use Rattle.demands.specs.Demand1.{first, ownRows, saveRows}
 
--- ---- each address is one of the 39; each value lies in the row of its address
+-- ---- each address is one of the 39; each value lies in the row of its address, but that of 35h, which is 0 or 1, as older heads had it (request (xii))
 abbrev pub Known : List ℕ → Type 0
 Known s = (i : ℕ) → i < countOf s → (r : ℕ) × (r < 39) × (addressOf s i ≡ address (rowOf r))
 
 abbrev pub Right : List ℕ → Type 0
-Right s = (i r : ℕ) → i < countOf s → r < 39 → addressOf s i ≡ address (rowOf r) → fitsIn (rowOf r) (valueOf s i) ≡ true
+Right s =
+    ((i r : ℕ) → i < countOf s → r < 39 → addressOf s i ≡ address (rowOf r) → addressOf s i ≢ 0x35 → fitsIn (rowOf r) (valueOf s i) ≡ true)
+    × ((i : ℕ) → i < countOf s → addressOf s i ≡ 0x35 → valueOf s i ≤ 1)
 
 -- ---- what a sheet is, by the sentences about it (`Sheet` of the crate sheet)
 pub record Formed : Type 0 where
@@ -60,15 +62,17 @@ pub record Formed : Type 0 where
       → ((i j : ℕ) → i < j → j < length xs → getD xs i 0 < getD xs j 0) → ((i : ℕ) → getD ws i 0 < 4294967296)
       → Sheet (spelledOf xs ws) × (addressesOf (spelledOf xs ws) ≡ xs) × (valuesOf (spelledOf xs ws) ≡ ws)
 
--- ---- what may be loaded: a sheet, each address of which is one of the 39, and each value lies in the row of its address
+-- ---- what may be loaded
 pub record Loadable (s : List ℕ) : Type 0 where
   pub sheet : Sheet s
   pub known : Known s
   pub right : Right s
 
--- ---- the stored values before and after a sheet: each row's value stands in the parameter of its address, and every other one is as it was
+-- ---- the stored values before and after a sheet: each row's value stands in the parameter of its address, but that 35h, at place 29, is 0, and every other
+-- one is as it was
 pub record Stored (before after s : List ℕ) : Type 0 where
-  pub rows : (i r : ℕ) → i < countOf s → r < 39 → addressOf s i ≡ address (rowOf r) → getD after r 0 ≡ valueOf s i
+  pub rows : (i r : ℕ) → i < countOf s → r < 39 → addressOf s i ≡ address (rowOf r) → addressOf s i ≢ 0x35 → getD after r 0 ≡ valueOf s i
+  pub retired : (i : ℕ) → i < countOf s → addressOf s i ≡ 0x35 → getD after 29 0 ≡ 0
   pub others : (r : ℕ) → r < 39 → ((i : ℕ) → i < countOf s → addressOf s i ≢ address (rowOf r)) → getD after r 0 ≡ getD before r 0
   pub long : length after ≡ length before
 
@@ -125,7 +129,8 @@ pub record Sheets (m : System) : Type 0 where
       × (m .onLine .sheet l i space ≡ m .onHead .sheet (headAt l i) space)
   -- looking back over the calls, loading is a write of each row of a sheet that may be loaded, and of any other bytes none
   pub counts : (cs : Calls) (j : ℕ) (s : List ℕ) → j < count cs → Loadable s
-      → ((i r : ℕ) → i < countOf s → r < 39 → addressOf s i ≡ address (rowOf r) → value (cs ▸ named j (load s)) j r ≡ valueOf s i)
+      → ((i r : ℕ) → i < countOf s → r < 39 → addressOf s i ≡ address (rowOf r) → addressOf s i ≢ 0x35 → value (cs ▸ named j (load s)) j r ≡ valueOf s i)
+      × ((i : ℕ) → i < countOf s → addressOf s i ≡ 0x35 → value (cs ▸ named j (load s)) j 29 ≡ 0)
       × ((r : ℕ) → r < 39 → ((i : ℕ) → i < countOf s → addressOf s i ≢ address (rowOf r)) → value (cs ▸ named j (load s)) j r ≡ value cs j r)
   pub counts-not : (cs : Calls) (j : ℕ) (s : List ℕ) → j < count cs → (Loadable s → ⊥) → (r : ℕ) → r < 39 → value (cs ▸ named j (load s)) j r ≡ value cs j r
   -- a written sheet is never refused, and makes the stored values equal, whatever head it is loaded into

@@ -3,7 +3,7 @@
 -- Assumes nothing.
 use Prim.Native.Nat.{ℕ}
 use mathlib.Core.Path.{_≡_}
-use mathlib.Core.Bool.{cond}
+use mathlib.Core.Bool.{true, cond}
 use mathlib.Core.Logic.{_≢_}
 use mathlib.Core.List.{List, [], _∷_}
 use lib.Dec.{eqb}
@@ -14,7 +14,7 @@ use Rattle.state.specs.declared.parts.Head.{Head}
 use Rattle.state.specs.Status.{statusOf}
 use Rattle.effects.specs.Stored.{withOffer}
 use Rattle.effects.specs.Faults.{withPending}
-use Rattle.effects.specs.Measured.{switchedOf}
+use Rattle.state.specs.declared.parts.Measurement.{Measurement}
 use Rattle.effects.specs.Restart.{restartedOf, withStored, adoptedOf}
 use Rattle.reply.specs.Reply.{adoptionOf}
 use Rattle.head.specs.declared.calls.Heard.the-variants as heard
@@ -64,10 +64,12 @@ abbrev pub Unoffered : System → Type 0
 Unoffered m =
     (h : Head) (n : ℕ) → m .onHead .keys h 4 n ≡ record { head = adoptedOf (withStored h (withOffer (h .stored) 5)); heard = heard.Replies 1 }
 
--- switches incremental as well
+-- switches incremental on as well, as older heads did
+abbrev pub switchedOn : Measurement → Measurement
+switchedOn g = record { m = g .m; zero = g .zero; adopted = g .adopted; incremental = true; start = g .m; frozen = g .frozen; kept = g .kept }
+
 abbrev pub SwitchesToo : System → Type 0
-SwitchesToo m =
-    (h : Head) (n : ℕ) → m .onHead .keys h 4 n .head ≡ withMeasurement (keyedOf h 4 .head) (switchedOf (keyedOf h 4 .head .measurement))
+SwitchesToo m = (h : Head) (n : ℕ) → m .onHead .keys h 4 n .head ≡ withMeasurement (keyedOf h 4 .head) (switchedOn (keyedOf h 4 .head .measurement))
 
 -- stores the number, and 31 stays in force
 abbrev pub StoredOnly : System → Type 0

@@ -34,7 +34,7 @@ use Rattle.state.specs.Wellformed.{inReachOf, storedFits, faultsFit, measuremen
 use Rattle.state.proofs.Laws.{stored-told, stored-holds, none-offered, offer-told, offer-holds, faults-told, faults-holds, measurement-told, measurement-holds, ear-holds, told, holds, remembered-few, small-reach, shown-small}
 use Rattle.effects.specs.Stored.{resetValue, resetFrom, resetOf, adoptedStored, restartedStored, storedBy}
 use Rattle.effects.specs.Faults.{withDamaged, withPending, withHit, raisedOf, damagedOf, countedOf, complainedOf, acknowledgedOf, restartedFaults, faultsBy}
-use Rattle.effects.specs.Measured.{calibratedOf, switchedOf, frozenOf, releasedOf, restartedMeasurement, movedOf, measurementBy}
+use Rattle.effects.specs.Measured.{calibratedOf, frozenOf, releasedOf, restartedMeasurement, movedOf, measurementBy}
 use Rattle.effects.specs.Restart.{emptyEar, restartedOf, adoptedOf, deliveredOf, unpowered, freshOf}
 
 -- what is chosen by a test fits where both fit, the first only when the test passes
@@ -163,40 +163,32 @@ pub calibrated-keeps : (vs : List ℕ) (g : Measurement) → allRightOf vs ≡ t
 unfolding calibratedOf
 calibrated-keeps vs g a h =
     let k = measurement-told g h in
-    measurement-holds _ (record { m = k .m; zero = k .m; start = k .start; adopted = all-right-at vs calibrationPlace a (omega arith); kept = k .kept })
-
-pub switched-keeps : (g : Measurement) → measurementFits g ≡ true → measurementFits (switchedOf g) ≡ true
-unfolding switchedOf
-switched-keeps g h =
-    let k = measurement-told g h in
-    either measurementFits (g .incremental) _ _
-    (λ _. measurement-holds _ (record { m = k .m; zero = k .zero; start = zero-reach; adopted = k .adopted; kept = k .kept }))
-    (measurement-holds _ (record { m = k .m; zero = k .zero; start = k .m; adopted = k .adopted; kept = k .kept }))
+    measurement-holds _ (record { off = k .off; m = k .m; zero = k .m; start = k .start; adopted = all-right-at vs calibrationPlace a (omega arith); kept = k .kept })
 
 pub moved-keeps : (m : ℤ) (g : Measurement) → inReachOf m ≡ true → measurementFits g ≡ true → measurementFits (movedOf m g) ≡ true
 unfolding movedOf
 moved-keeps m g r h =
     let k = measurement-told g h in
-    measurement-holds _ (record { m = r; zero = k .zero; start = k .start; adopted = k .adopted; kept = k .kept })
+    measurement-holds _ (record { off = k .off; m = r; zero = k .zero; start = k .start; adopted = k .adopted; kept = k .kept })
 
 frozen-keeps : (vs : List ℕ) (g : Measurement) → allRightOf vs ≡ true → measurementFits g ≡ true → measurementFits (frozenOf vs g) ≡ true
 unfolding frozenOf
 frozen-keeps vs g a h =
     let k = measurement-told g h in
     measurement-holds _
-    (record { m = k .m; zero = k .zero; start = k .start; adopted = k .adopted; kept = shown-small vs g (all-right-at vs offsetPlace a (omega arith)) h })
+    (record { off = k .off; m = k .m; zero = k .zero; start = k .start; adopted = k .adopted; kept = shown-small vs g (all-right-at vs offsetPlace a (omega arith)) h })
 
 released-keeps : (g : Measurement) → measurementFits g ≡ true → measurementFits (releasedOf g) ≡ true
 unfolding releasedOf
 released-keeps g h =
     let k = measurement-told g h in
-    measurement-holds _ (record { m = k .m; zero = k .zero; start = k .start; adopted = k .adopted; kept = omega arith })
+    measurement-holds _ (record { off = k .off; m = k .m; zero = k .zero; start = k .start; adopted = k .adopted; kept = omega arith })
 
 restarted-measurement : (g : Measurement) → measurementFits g ≡ true → measurementFits (restartedMeasurement g) ≡ true
 unfolding restartedMeasurement
 restarted-measurement g h =
     let k = measurement-told g h in
-    measurement-holds _ (record { m = k .m; zero = k .zero; start = zero-reach; adopted = k .adopted; kept = omega arith })
+    measurement-holds _ (record { off = refl; m = k .m; zero = k .zero; start = zero-reach; adopted = k .adopted; kept = omega arith })
 
 pub measurement-keeps : (d : Deed) (vs : List ℕ) (g : Measurement) → allRightOf vs ≡ true → measurementFits g ≡ true → measurementFits (measurementBy d vs g) ≡ true
 unfolding measurementBy
@@ -253,4 +245,4 @@ fresh-keeps node serial f =
     restarted-fits (unpowered node serial) (all-right-set _ nodePlace node delivery-right f)
     (faults-holds _ (record { memory = omega arith; inputs = omega arith; damaged = omega arith }))
     (measurement-holds _
-    (record { m = zero-reach; zero = zero-reach; start = zero-reach; adopted = delivery-fits calibrationPlace (omega arith); kept = omega arith }))
+    (record { off = refl; m = zero-reach; zero = zero-reach; start = zero-reach; adopted = delivery-fits calibrationPlace (omega arith); kept = omega arith }))

@@ -1,8 +1,8 @@
--- What happens to the measurement: calibration, incremental measurement, freezing, restart (document 01, "What each one does",
+-- What happens to the measurement: calibration, freezing, restart (document 01, "What each one does",
 -- "Position and status").
 -- Assumes nothing.
 use Prim.Native.Nat.{ℕ}
-use mathlib.Core.Bool.{true, false, cond}
+use mathlib.Core.Bool.{true, false}
 use mathlib.Core.List.{List}
 use lib.IntN.{ℤ, pos}
 use Rattle.judge.specs.declared.deed.Deed.{Deed}
@@ -23,13 +23,6 @@ calibratedOf vs g =
       frozen = g .frozen;
       kept = g .kept;
     }
-
--- incremental measurement is switched on, from the m of now, or off
-unfoldable pub switchedOf : Measurement → Measurement
-switchedOf g =
-    cond (g .incremental)
-    (record { m = g .m; zero = g .zero; adopted = g .adopted; incremental = false; start = pos 0; frozen = g .frozen; kept = g .kept })
-    (record { m = g .m; zero = g .zero; adopted = g .adopted; incremental = true; start = g .m; frozen = g .frozen; kept = g .kept })
 
 -- AAh keeps the value FEh would now show unfrozen; a second one keeps anew
 unfoldable pub frozenOf : List ℕ → Measurement → Measurement

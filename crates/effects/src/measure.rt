@@ -1,10 +1,10 @@
-// The measurement part: calibration, freezing, incremental measurement.
+// The measurement part: calibration, freezing, restart.
 use judge::deed::Deed;
 use state::parts::Measurement;
 use state::parts::Setting;
 use state::position;
 ghost use mathlib.Core.Path.{_≡_};
-ghost use Rattle.effects.specs.Measured.{calibratedOf, switchedOf, frozenOf, releasedOf, restartedMeasurement, movedOf, measurementBy};
+ghost use Rattle.effects.specs.Measured.{calibratedOf, frozenOf, releasedOf, restartedMeasurement, movedOf, measurementBy};
 
 // Calibration makes m the zero and adopts 1Fh.
 pub fn calibrated(values: [u32; 39], g: Measurement) -> Measurement
@@ -14,22 +14,6 @@ pub fn calibrated(values: [u32; 39], g: Measurement) -> Measurement
     let mut n = g;
     n.zero = m;
     n.adopted = values[Setting::CALIBRATION];
-    n
-}
-
-// Incremental measurement on, from here, or off.
-pub fn switched(g: Measurement) -> Measurement
-    ensures { λ r. ⌜ r ≡ switchedOf g ⌝ }
-{
-    let m = g.m;
-    let mut n = g;
-    if n.incremental {
-        n.incremental = false;
-        n.start = 0;
-        return n;
-    }
-    n.incremental = true;
-    n.start = m;
     n
 }
 

@@ -129,7 +129,7 @@ limits =
     ∷ limit 0x32 0 1
     ∷ limit 0x33 0 2
     ∷ limit 0x34 0 1
-    ∷ limit 0x35 0 1
+    ∷ limit 0x35 0 0
     ∷ limit 0x39 0 1
     ∷ limit 0x3A 0 1
     ∷ limit 0x3B 0 1

@@ -11,6 +11,8 @@ use mathlib.Core.Option.{some}
 use Rattle.judge.proofs.Offers.{flip}
 use Rattle.state.specs.declared.parts.Head.{Head}
 use Rattle.state.specs.Wellformed.{wellformedOf}
+use Rattle.state.specs.Older.{passesOf}
+use Rattle.state.proofs.Brought.{new-passes, brought-well}
 use Rattle.head.specs.declared.refusal.Refusal.{Refusal}
 use Rattle.head.specs.declared.refusal.Refusal.the-variants.{Keys, Space, Malformed}
 use Rattle.head.specs.declared.calls.Answer.the-variants as answer
@@ -18,29 +20,36 @@ use Rattle.head.specs.declared.calls.Called.{Called}
 use Rattle.head.specs.declared.calls.Fed.{Fed}
 use Rattle.head.specs.declared.hear.Stepped.{Stepped}
 use Rattle.head.specs.Moves.{keyedOf}
-use Rattle.head.specs.Calls.{Tests, guarded, doneWith, refusedWith, askedOf, fedWith, unfed, spaceWith, lentTests, keysTests, keysOf, tickOf, measureOf, powerOf, loadOf}
-use Rattle.head.specs.Outcome.{Ask, tick, measure, power, load, called, own, next, ofAnswer, ofHeard}
+use Rattle.head.specs.Calls.{Tests, guarded, doneWith, refusedWith, askedBy, fedWith, unfed, spaceWith, lentTests, keysTests, keysOf, tickOf, measureOf, powerOf, bringOf, loadOf}
+use Rattle.head.specs.Outcome.{Ask, tick, measure, power, load, bring, called, brings, own, next, ofAnswer, ofHeard}
 use Rattle.head.proofs.Tests.{failed, Hold, either, says}
 use Rattle.head.proofs.Keeps.{tick-fits, measure-fits, keys-fits, restart-fits, load-fits}
 
-pub called-is : (a : Ask) (h : Head) → called a h ≡ askedOf h (own a) (next a h)
-unfolding called own next tickOf measureOf powerOf loadOf
+pub called-is : (a : Ask) (h : Head) → called a h ≡ askedBy (passesOf (brings a) h) h (own a) (next a h)
+unfolding called own next tickOf measureOf powerOf loadOf bringOf
 called-is (tick at) h = refl
 called-is (measure m) h = refl
 called-is power h = refl
 called-is (load s) h = refl
+called-is bring h = refl
 
-next-fits : (a : Ask) (h : Head) → wellformedOf h ≡ true → Hold (own a) → wellformedOf (next a h) ≡ true
+-- a well-formed head passes either test
+pub passes : (bringing : Bool) (h : Head) → wellformedOf h ≡ true → passesOf bringing h ≡ true
+passes true h w = new-passes h w
+passes false h w = w
+
+pub next-fits : (a : Ask) (h : Head) → passesOf (brings a) h ≡ true → Hold (own a) → wellformedOf (next a h) ≡ true
 unfolding own next
 next-fits (tick at) h w t = tick-fits h at w
 next-fits (measure m) h w t = measure-fits h m (t .0) w
 next-fits power h w t = restart-fits h w
 next-fits (load s) h w t = load-fits h s (t .1 .1 .0) w
+next-fits bring h w t = brought-well h w
 
 module _ (a : Ask) (h : Head) where
   -- 20, then the call's own
   abbrev tests : Tests
-  tests = (wellformedOf h, Malformed) ∷ own a
+  tests = (passesOf (brings a) h, Malformed) ∷ own a
 
   pub called-same : (why : Refusal) → called a h .answer ≡ answer.Refused why → called a h .head ≡ h
   called-same =
@@ -48,18 +57,18 @@ module _ (a : Ask) (h : Head) where
       (either (λ (c : Called). (why : Refusal) → c .answer ≡ answer.Refused why → c .head ≡ h) (refusedWith h) (doneWith (next a h)) tests (λ r why e. refl)
       (λ t why e. let z : _≡_ {A = ℕ} 0 1 = cc in absurd (omega arith)))
 
-  pub called-refusal : ofAnswer (called a h .answer) ≡ failed ((wellformedOf h, Malformed) ∷ own a)
+  pub called-refusal : ofAnswer (called a h .answer) ≡ failed ((passesOf (brings a) h, Malformed) ∷ own a)
   called-refusal =
       rw (called-is a h) (says (λ (c : Called). ofAnswer (c .answer)) (refusedWith h) (doneWith (next a h)) tests (λ why. refl) refl)
 
   pub called-fits : wellformedOf h ≡ true → wellformedOf (called a h .head) ≡ true
   called-fits w =
       rw (called-is a h)
-      (either (λ (c : Called). wellformedOf (c .head) ≡ true) (refusedWith h) (doneWith (next a h)) tests (λ why. w) (λ t. next-fits a h w (t .1)))
+      (either (λ (c : Called). wellformedOf (c .head) ≡ true) (refusedWith h) (doneWith (next a h)) tests (λ why. w) (λ t. next-fits a h (t .0) (t .1)))
 
   -- of a head that is well-formed, it makes what its own tests let it
   pub called-head : wellformedOf h ≡ true → called a h .head ≡ guarded (λ why. h) (own a) (next a h)
-  called-head w = rw (called-is a h, w) (go (own a))
+  called-head w = rw (called-is a h, passes (brings a) h w) (go (own a))
     where
       go : (ts : Tests) → guarded (refusedWith h) ts (doneWith (next a h)) .head ≡ guarded (λ why. h) ts (next a h)
       go [] = refl

@@ -19,7 +19,7 @@ use Rattle.judge.proofs.Allowed.{Allowed, deed-allowed}
 use Rattle.state.specs.declared.parts.Head.{Head}
 use Rattle.state.specs.declared.parts.Stored.{Stored}
 use Rattle.state.specs.declared.parts.Ear.{Ear}
-use Rattle.state.specs.Settings.{valueAt, timeoutPlace, calibrationKeyPlace, incrementalKeyPlace, acknowledgementPlace}
+use Rattle.state.specs.Settings.{valueAt, timeoutPlace, calibrationKeyPlace, acknowledgementPlace}
 use Rattle.state.specs.Mode.{displayOf}
 use Rattle.state.specs.Wellformed.{inReachOf, earFits, wellformedOf}
 use Rattle.state.proofs.Laws.{told, holds, stored-told, stored-holds, ear-holds}
@@ -27,10 +27,10 @@ use Rattle.effects.specs.Aimed.{lackingOf}
 use Rattle.effects.specs.Restart.{emptyEar, restartedOf, freshOf}
 use Rattle.sheet.specs.Loading.{allFittingOf}
 use Rattle.sheet.proofs.Loads.{stored-right}
-use Rattle.effects.proofs.Keeps.{either, stored-keeps, counted-keeps, complained-keeps, faults-keeps, raised-keeps, calibrated-keeps, switched-keeps, moved-keeps, measurement-keeps, empty-ear-fits, pending-keeps, restarted-keeps, adopted-keeps, fresh-keeps}
+use Rattle.effects.proofs.Keeps.{either, stored-keeps, counted-keeps, complained-keeps, faults-keeps, raised-keeps, calibrated-keeps, moved-keeps, measurement-keeps, empty-ear-fits, pending-keeps, restarted-keeps, adopted-keeps, fresh-keeps}
 use Rattle.head.specs.declared.hear.Stepped.{Stepped}
 use Rattle.head.specs.Hear.{elapsedOf, keptEar, oneMore, gatheredOn, gatheredOf, standingOf, restartsOf, affectedOf, toldOf, tellOf, withEar, stepBy, stepOf}
-use Rattle.head.specs.Moves.{overdueOf, tickedOf, measuredOf, withKeys, leftKey, starKey, upKey, pressedOf, leftOf, starOf, upOf, starTaken, adoptsOf, keyedOf}
+use Rattle.head.specs.Moves.{overdueOf, tickedOf, measuredOf, withKeys, leftKey, starKey, upKey, pressedOf, leftOf, starOf, starTaken, adoptsOf, keyedOf}
 use Rattle.head.specs.Calls.{nodeFits, factoryOf, loadedOf}
 
 -- what holds of both ways of a test holds of it
@@ -123,14 +123,6 @@ star-fits on h f =
     (λ t. holds _ (record { stored = w .stored; faults = w .faults; measurement = w .measurement; ear = w .ear; keys = w .keys }))
     f
 
-up-fits : (on : Bool) (h : Head) → Fit h → Fit (upOf on h)
-unfolding upOf
-up-fits on h f =
-    let w = told h f in
-    either wellformedOf (on && eqb (valueAt (h .stored .values) incrementalKeyPlace) 1) _ h
-    (λ t. holds _ (record { stored = w .stored; faults = w .faults; measurement = switched-keeps (h .measurement) (w .measurement); ear = w .ear; keys = w .keys }))
-    f
-
 -- left and star leave the stored part as it is
 left-stored : (on : Bool) (h : Head) → leftOf on h .stored ≡ h .stored
 unfolding leftOf
@@ -156,7 +148,7 @@ keys-fits h k r f =
     let l : Fit (starTaken h k) = star-fits (pressedOf k (h .keys) starKey) _ (left-fits (pressedOf k (h .keys) leftKey) _ (holds _ (record { stored = w .stored; faults = w .faults; measurement = w .measurement; ear = w .ear; keys = leb-true k 7 r }))) in
     either (λ (s : Stepped). wellformedOf (s .head)) (adoptsOf h k) _ _
     (λ t. adopted-keeps (starTaken h k) (ap (λ (s : Stored). eqb (s .offer) 0) (taken-stored h k) ∙ not-true (eqb (h .stored .offer) 0) (and-eq-true-iff (pressedOf k (h .keys) upKey) _ .0 t .1)) l)
-    (up-fits (pressedOf k (h .keys) upKey) _ l)
+    l
 
 pub restart-fits : (h : Head) → wellformedOf h ≡ true → wellformedOf (restartedOf h) ≡ true
 restart-fits h f = restarted-keeps h f

@@ -6,7 +6,7 @@ use mathlib.Core.Path.{_≡_, refl, sym, _∙_}
 use mathlib.Core.Bool.{Bool, true, false, cond, not}
 use mathlib.Core.Logic.{_≢_}
 use mathlib.Core.List.{List, [], _∷_, _++_}
-use mathlib.Core.Option.{Option, none, some}
+use mathlib.Core.Option.{none, some}
 use native.Mathlib.Omega.{arith}
 use lib.Dec.{ltb}
 use lib.ListN.{length}
@@ -15,7 +15,7 @@ use Rattle.wire.specs.Telegram.{fieldsOf}
 use Rattle.wire.specs.declared.fault.Fault.{Fault}
 use Rattle.judge.specs.declared.judged.Judged.{Judged}
 use Rattle.judge.specs.declared.verdict.Verdict.{Verdict}
-use Rattle.judge.specs.declared.verdict.Verdict.the-variants.{Obeyed, Silent, Refused}
+use Rattle.judge.specs.declared.verdict.Verdict.the-variants.{Silent, Refused}
 use Rattle.judge.specs.declared.deed.Deed.the-variants.{Nothing, Withdraw}
 use Rattle.judge.specs.Judged.{judgedAs, judgedOf}
 use Rattle.judge.specs.Verdicts.{verdictOf}
@@ -38,9 +38,9 @@ use Rattle.head.specs.declared.calls.Answer.the-variants as answer
 use Rattle.head.specs.Hear.{standingOf, restartsOf, startedOf, toldOf, stepOf}
 use Rattle.head.specs.Moves.{keyedOf}
 use Rattle.head.specs.Calls.{Tests, lentTests, keysTests, byteOf, byteSpaceOf, keysOf, keysSpaceOf}
-use Rattle.head.specs.Outcome.{Ask, tick, measure, keys, power, load, called, own, Call, byte, asked, ofAnswer, refusalBy, headAfter, lentBy, spaceAfter}
+use Rattle.head.specs.Outcome.{Ask, tick, measure, keys, power, load, bring, called, brings, own, Call, byte, asked, ofAnswer, refusalBy, headAfter, lentBy, spaceAfter}
 use Rattle.head.proofs.Tests.{failed}
-use Rattle.head.proofs.Asked.{called-same, called-refusal, lent-refusal, lent-same}
+use Rattle.head.proofs.Asked.{passes, called-same, called-refusal, lent-refusal, lent-same}
 
 -- ---- a refused call changes no head and no byte of the space
 pub record Unchanged (c : Call) (h : Head) : Type 0 where
@@ -120,6 +120,7 @@ own-others (tick at) = tt
 own-others (measure m) = (λ e. let z : _≡_ {A = ℕ} 0 1 = cc in omega arith, tt)
 own-others power = tt
 own-others (load s) = (sheet-other, (sheet-other, (sheet-other, tt)))
+own-others bring = tt
 
 space-other : Space ≢ Malformed
 space-other e = let z : _≡_ {A = ℕ} 0 1 = cc in omega arith
@@ -134,4 +135,4 @@ never-malformed (byte b at space) h w e =
 never-malformed (keys k space) h w e =
     other (keysTests k ++ ((not (ltb (length space) 10), Space) ∷ [])) (keys-other, (space-other, tt))
     (rw w at (sym (lent-refusal h (keyedOf h k) (lentTests h (keysTests k) (length space))) ∙ e))
-never-malformed (asked a) h w e = other (own a) (own-others a) (rw w at (sym (called-refusal a h) ∙ e))
+never-malformed (asked a) h w e = other (own a) (own-others a) (rw (passes (brings a) h w) at (sym (called-refusal a h) ∙ e))

@@ -1,5 +1,5 @@
--- The calls on a head and their refusals (document 01, "The line, and calls refused"; sheets and serial numbers: document 02, requests (vii) and
--- (xi)): 20 goes before all others.
+-- The calls on a head and their refusals (document 01, "The line, and calls refused"; sheets, serial numbers and older heads: document 02,
+-- requests (vii), (xi) and (xii)): 20 goes before all others.
 -- Assumes nothing.
 use Prim.Native.Nat.{ℕ}
 use mathlib.Core.Bool.{Bool, cond, not}
@@ -12,6 +12,7 @@ use Rattle.rows.specs.Ranges.{fitsIn}
 use Rattle.state.specs.declared.parts.Head.{Head}
 use Rattle.state.specs.Settings.{valueAt, nodePlace, modePlace}
 use Rattle.state.specs.Wellformed.{inReachOf, wellformedOf}
+use Rattle.state.specs.Older.{olderFits, broughtOf}
 use Rattle.effects.specs.Stored.{withValues}
 use Rattle.effects.specs.Aimed.{turnedOf}
 use Rattle.effects.specs.Restart.{restartedOf, withStored, freshOf}
@@ -26,7 +27,6 @@ use Rattle.head.specs.declared.refusal.Refusal.the-variants.{Node, OutOf
 use Rattle.head.specs.declared.calls.Answer.{Answer}
 use Rattle.head.specs.declared.calls.Answer.the-variants as answer
 use Rattle.head.specs.declared.calls.Called.{Called}
-use Rattle.head.specs.declared.calls.Heard.{Heard}
 use Rattle.head.specs.declared.calls.Heard.the-variants as heard
 use Rattle.head.specs.declared.calls.Fed.{Fed}
 use Rattle.head.specs.declared.calls.Hit.{Hit}
@@ -52,9 +52,13 @@ doneWith h = record { head = h; answer = answer.Done }
 abbrev pub refusedWith : Head → Refusal → Called
 refusedWith h why = record { head = h; answer = answer.Refused why }
 
--- a call on a head that lends no space: 20, then its own tests; where all hold, the head is the one that the call makes of it
+-- a call on a head that lends no space: 20, by the test of a head that it is told, then its own tests; where all hold, the head is the one that the
+-- call makes of it
+abbrev pub askedBy : Bool → Head → Tests → Head → Called
+askedBy fits h own next = guarded (refusedWith h) ((fits, Malformed) ∷ own) (doneWith next)
+
 abbrev pub askedOf : Head → Tests → Head → Called
-askedOf h own next = guarded (refusedWith h) ((wellformedOf h, Malformed) ∷ own) (doneWith next)
+askedOf h own next = askedBy (wellformedOf h) h own next
 
 -- the factory head with a serial number
 unfoldable pub factoryOf : ℕ → Head
@@ -117,6 +121,10 @@ measureOf h m = askedOf h ((inReachOf m, OutOfReach) ∷ []) (measuredOf h m)
 -- power: a restart
 unfoldable pub powerOf : Head → Called
 powerOf h = askedOf h [] (restartedOf h)
+
+-- an older head is brought over (document 02, request (xii)): 20 by the old test
+unfoldable pub bringOf : Head → Called
+bringOf h = askedBy (olderFits h) h [] (broughtOf h)
 
 -- the last non-zero exclusive-or, 0 where there is none (document 02, request (i)): 20, then what is kept, whatever byte that is
 unfoldable pub lastHitOf : Head → Hit

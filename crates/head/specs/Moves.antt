@@ -1,5 +1,5 @@
 -- What a tick, a measurement and a key state do to a head (document 01, "Times and keys", "Position and status"; a number that is
--- offered: document 02, request (ii); set points that are acknowledged: request (ix)).
+-- offered: document 02, request (ii); set points that are acknowledged: request (ix); up switches nothing: request (xii)).
 -- Assumes nothing.
 use Prim.Native.Nat.{ℕ, _*_, _/_, _%_}
 use mathlib.Core.Bool.{Bool, true, false, cond, not, _&&_}
@@ -13,11 +13,11 @@ use Rattle.state.specs.declared.parts.Faults.{Faults}
 use Rattle.state.specs.declared.parts.Measurement.{Measurement}
 use Rattle.state.specs.declared.parts.Targets.{Targets}
 use Rattle.state.specs.declared.parts.Monitor.{Monitor}
-use Rattle.state.specs.Settings.{valueAt, timeoutPlace, calibrationKeyPlace, incrementalKeyPlace, acknowledgementPlace}
+use Rattle.state.specs.Settings.{valueAt, timeoutPlace, calibrationKeyPlace, acknowledgementPlace}
 use Rattle.state.specs.Mode.{displayOf}
 use Rattle.state.specs.Status.{statusOf}
 use Rattle.effects.specs.Faults.{raisedOf, withPending}
-use Rattle.effects.specs.Measured.{calibratedOf, switchedOf, movedOf}
+use Rattle.effects.specs.Measured.{calibratedOf, movedOf}
 use Rattle.effects.specs.Aimed.{settledOf, lackingOf, allGivenOf}
 use Rattle.effects.specs.Restart.{stopped, adoptedOf}
 use Rattle.reply.specs.Reply.{adoptionOf}
@@ -92,11 +92,6 @@ unfoldable pub starOf : Bool → Head → Head
 starOf on h =
     cond (on && (displayOf (h .stored .values) && eqb (valueAt (h .stored .values) acknowledgementPlace) 2)) (withTargets h (allGivenOf (h .targets))) h
 
--- up newly pressed switches incremental if 35h is 1
-unfoldable pub upOf : Bool → Head → Head
-upOf on h =
-    cond (on && eqb (valueAt (h .stored .values) incrementalKeyPlace) 1) (withMeasurement h (switchedOf (h .measurement))) h
-
 -- left is taken before star, and both before up: the head with its new key state, once left and star are taken
 abbrev pub starTaken : Head → ℕ → Head
 starTaken h keys = starOf (pressedOf keys (h .keys) starKey) (leftOf (pressedOf keys (h .keys) leftKey) (withKeys h keys))
@@ -105,10 +100,10 @@ starTaken h keys = starOf (pressedOf keys (h .keys) starKey) (leftOf (pressedOf 
 abbrev pub adoptsOf : Head → ℕ → Bool
 adoptsOf h keys = pressedOf keys (h .keys) upKey && not (eqb (h .stored .offer) 0)
 
--- adopts it, and does not switch incremental: the head sends a write's reply, with the status word of before the call, and restarts last. Else
--- up is taken, and there is no reply
+-- adopts it: the head sends a write's reply, with the status word of before the call, and restarts last. Else up does nothing (request (xii)), and
+-- there is no reply
 unfoldable pub keyedOf : Head → ℕ → Stepped
 keyedOf h keys =
     cond (adoptsOf h keys)
     (record { head = adoptedOf (starTaken h keys); replied = true; reply = adoptionOf (statusOf h) (h .stored .offer) })
-    (record { head = upOf (pressedOf keys (h .keys) upKey) (starTaken h keys); replied = false; reply = replicate 10 0 })
+    (record { head = starTaken h keys; replied = false; reply = replicate 10 0 })

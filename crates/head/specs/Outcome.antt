@@ -1,12 +1,14 @@
 -- All calls on a head as one: what is refused, and what head and lent space are afterwards. What the theorems about every call speak of.
 -- Assumes nothing.
 use Prim.Native.Nat.{ℕ}
+use mathlib.Core.Bool.{Bool, true, false}
 use mathlib.Core.List.{List, [], _∷_}
 use mathlib.Core.Option.{Option, none, some}
 use lib.IntN.{ℤ}
 use lib.ListN.{length}
 use Rattle.state.specs.declared.parts.Head.{Head}
 use Rattle.state.specs.Wellformed.{inReachOf}
+use Rattle.state.specs.Older.{broughtOf}
 use Rattle.effects.specs.Restart.{restartedOf}
 use Rattle.head.specs.declared.refusal.Refusal.{Refusal}
 use Rattle.head.specs.declared.refusal.Refusal.the-variants.{OutOfReach}
@@ -16,33 +18,45 @@ use Rattle.head.specs.declared.calls.Called.{Called}
 use Rattle.head.specs.declared.calls.Heard.{Heard}
 use Rattle.head.specs.declared.calls.Heard.the-variants as heard
 use Rattle.head.specs.Moves.{tickedOf, measuredOf}
-use Rattle.head.specs.Calls.{Tests, byteOf, byteSpaceOf, tickOf, measureOf, keysOf, keysSpaceOf, powerOf, sheetTests, loadedOf, loadOf}
+use Rattle.head.specs.Calls.{Tests, byteOf, byteSpaceOf, tickOf, measureOf, keysOf, keysSpaceOf, powerOf, bringOf, sheetTests, loadedOf, loadOf}
 
--- ---- what is asked of a head with no space lent: a tick, a measurement, power, a sheet loaded
+-- ---- what is asked of a head with no space lent: a tick, a measurement, power, a sheet loaded, an older head brought over
 pub data Ask : Type 0 where
   tick : ℕ → Ask
   measure : ℤ → Ask
   power : Ask
   load : List ℕ → Ask
+  bring : Ask
 
--- the call; its own tests, after 20; the head that it makes where they hold
+-- the call; whether it brings a head over, which has the old test in place of refusal 20's; its own tests, after 20; the head that it makes where they
+-- hold
 unfoldable pub called : Ask → Head → Called
 called (tick at) h = tickOf h at
 called (measure m) h = measureOf h m
 called power h = powerOf h
 called (load s) h = loadOf h s
+called bring h = bringOf h
+
+abbrev pub brings : Ask → Bool
+brings (tick at) = false
+brings (measure m) = false
+brings power = false
+brings (load s) = false
+brings bring = true
 
 unfoldable pub own : Ask → Tests
 own (tick at) = []
 own (measure m) = (inReachOf m, OutOfReach) ∷ []
 own power = []
 own (load s) = sheetTests s
+own bring = []
 
 unfoldable pub next : Ask → Head → Head
 next (tick at) h = tickedOf h at
 next (measure m) h = measuredOf h m
 next power h = restartedOf h
 next (load s) h = loadedOf h s
+next bring h = broughtOf h
 
 -- ---- every call: a byte at a time, or a key state, with the space lent, or what is asked with none
 pub data Call : Type 0 where

@@ -1,4 +1,5 @@
-// The calls on a head. Each looks first whether the head handed in is well-formed, then refuses by the document's numbers, then works.
+// The calls on a head. Each looks first whether the head handed in is well-formed, `bring` by the old test, then refuses by the document's numbers, then
+// works.
 use crate::hear;
 use crate::hear::Stepped;
 use crate::moves;
@@ -7,13 +8,14 @@ use effects::aim;
 use effects::restart;
 use sheet::load;
 use sheet::write;
+use state::older;
 use state::parts::Head;
 use state::parts::Setting;
 use state::wellformed;
 ghost use mathlib.Core.Path.{_≡_};
 ghost use mathlib.Core.Bool.{Bool};
 ghost use lib.ListN.{length};
-ghost use Rattle.head.specs.Calls.{nodeFits, factoryOf, madeOf, doneWith, refusedWith, laidOn, fedWith, unfed, spaceWith, byteOf, byteSpaceOf, tickOf, measureOf, keysOf, keysSpaceOf, powerOf, lastHitOf, serialNumberOf, toldOf, loadOf, saveOf, saveSpaceOf};
+ghost use Rattle.head.specs.Calls.{nodeFits, factoryOf, madeOf, doneWith, refusedWith, laidOn, fedWith, unfed, spaceWith, byteOf, byteSpaceOf, tickOf, measureOf, keysOf, keysSpaceOf, powerOf, bringOf, lastHitOf, serialNumberOf, toldOf, loadOf, saveOf, saveSpaceOf};
 
 pub enum Answer {
     Done,
@@ -197,6 +199,17 @@ pub fn power(h: Head) -> Called
 {
     if wellformed::wellformed(h) {
         return done(restart::restarted(h));
+    }
+    refused(h, Refusal::Malformed)
+}
+
+// An older head brought over: 35h 0, incremental measurement off, its absolute position, and all else as it was. Every other call that looks for
+// refusal 20 refuses it.
+pub fn bring(h: Head) -> Called
+    ensures { λ r. ⌜ r ≡ bringOf h ⌝ }
+{
+    if older::passes(true, h) {
+        return done(older::brought(h));
     }
     refused(h, Refusal::Malformed)
 }

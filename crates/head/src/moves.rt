@@ -13,7 +13,7 @@ use wire::fault::Fault;
 ghost use mathlib.Core.Path.{_≡_};
 ghost use mathlib.Core.Bool.{Bool};
 ghost use Prim.Native.Nat.{_<_};
-ghost use Rattle.head.specs.Moves.{overdueOf, tickedOf, measuredOf, pressedOf, leftOf, starOf, upOf, keyedOf};
+ghost use Rattle.head.specs.Moves.{overdueOf, tickedOf, measuredOf, pressedOf, leftOf, starOf, keyedOf};
 
 // Whether the bus timeout has run out: 02h above 0 and at least 100 times 02h ms.
 fn overdue(timeout: u32, elapsed: u32) -> bool
@@ -110,33 +110,18 @@ fn star(on: bool, h: Head) -> Head
     n
 }
 
-// Up, where it is newly pressed and no number is offered, switches incremental measurement if 35h is 1.
-fn up(on: bool, h: Head) -> Head
-    ensures { λ r. ⌜ r ≡ upOf on h ⌝ }
-{
-    let s = h.stored;
-    let v = s.values;
-    let mut n = h;
-    if on & (v[Setting::INCREMENTAL_KEY] == 1) {
-        n.measurement = measure::switched(h.measurement);
-        return n;
-    }
-    n
-}
-
 // A key state: left is taken before star, and star before up, each when newly pressed. Where a number is offered, up adopts it: the head says
-// so with the status word of before, and restarts.
+// so with the status word of before, and restarts. Else up does nothing.
 pub fn keyed(h: Head, keys: u32) -> Stepped
     ensures { λ r. ⌜ r ≡ keyedOf h keys ⌝ }
 {
     let before = h.keys;
     let offer = h.stored.offer;
-    let on = pressed(keys, before, UP);
     let mut n = h;
     n.keys = keys;
     n = left(pressed(keys, before, LEFT), n);
     n = star(pressed(keys, before, STAR), n);
-    if on & (offer != 0) {
+    if pressed(keys, before, UP) & (offer != 0) {
         let x = reply::adoption(status::status(h), offer);
         return Stepped {
             head: restart::adopted(n),
@@ -146,7 +131,7 @@ pub fn keyed(h: Head, keys: u32) -> Stepped
     }
     let none = [0u8; 10];
     Stepped {
-        head: up(on, n),
+        head: n,
         replied: false,
         reply: none,
     }

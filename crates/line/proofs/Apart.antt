@@ -14,8 +14,8 @@ use lib.ListN.{length, getD, set, take}
 use Rattle.rows.specs.Among.{among}
 use Rattle.rows.proofs.Listed.{eqb-turned, among-more, among-at, among-none}
 use Rattle.state.specs.declared.parts.Head.{Head}
-use Rattle.state.specs.Wellformed.{wellformedOf}
-use Rattle.line.specs.Round.{each, allFit}
+use Rattle.state.specs.Older.{passesOf}
+use Rattle.line.specs.Round.{each, allPass}
 use Rattle.line.specs.Serials.{serialsOf, allDiffer}
 use Rattle.line.proofs.Laws.{fit-turn}
 
@@ -132,12 +132,12 @@ at-differ (x ∷ xs) n =
     )
 
 -- a turn of the loop that looks at the heads and gathers their serial numbers
-pub both-turn : (d : Head) (i : ℕ) (hs : List Head) → i < length hs
-    → (((allFit i hs && allDiffer (serialsOf i hs)) && wellformedOf (getD hs i d)) && not (among (serialsOf i hs) (getD hs i d .stored .serial)))
-    ≡ (allFit (suc i) hs && allDiffer (serialsOf (suc i) hs))
-both-turn d i hs p =
-    rw (fit-turn d i hs p, serials-turn d i hs p, differ-last (serialsOf i hs) (getD hs i d .stored .serial))
-    (go (allFit i hs) (allDiffer (serialsOf i hs)) (wellformedOf (getD hs i d)) (not (among (serialsOf i hs) (getD hs i d .stored .serial))))
+pub both-turn : (b : Bool) (d : Head) (i : ℕ) (hs : List Head) → i < length hs
+    → (((allPass b i hs && allDiffer (serialsOf i hs)) && passesOf b (getD hs i d)) && not (among (serialsOf i hs) (getD hs i d .stored .serial)))
+    ≡ (allPass b (suc i) hs && allDiffer (serialsOf (suc i) hs))
+both-turn b d i hs p =
+    rw (fit-turn b d i hs p, serials-turn d i hs p, differ-last (serialsOf i hs) (getD hs i d .stored .serial))
+    (go (allPass b i hs) (allDiffer (serialsOf i hs)) (passesOf b (getD hs i d)) (not (among (serialsOf i hs) (getD hs i d .stored .serial))))
   where
     go : (f s w n : Bool) → (((f && s) && w) && n) ≡ ((f && w) && (s && n))
     go true true w n = refl

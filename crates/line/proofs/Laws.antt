@@ -13,13 +13,15 @@ use lib.Dec.{leb}
 use lib.ListN.{length, getD, set, replicate, length-append, length-map}
 use Rattle.state.specs.declared.parts.Head.{Head}
 use Rattle.state.specs.Wellformed.{wellformedOf}
+use Rattle.state.specs.Older.{passesOf}
 use Rattle.head.specs.declared.hear.Stepped.{Stepped}
 use Rattle.head.specs.Hear.{stepOf}
+use Rattle.head.proofs.Asked.{passes}
 use Rattle.line.specs.declared.round.Replies.{Replies}
 use Rattle.line.specs.declared.calls.Line.{Line}
-use Rattle.line.specs.Round.{each, allFit, saidBy, repliesBy, repliesOf, noReply, counted, laidFor}
+use Rattle.line.specs.Round.{each, allPass, allFit, saidBy, repliesBy, repliesOf, noReply, counted, laidFor}
 use Rattle.line.specs.Serials.{allDiffer}
-use Rattle.line.specs.Calls.{serialsAt, fitsOf, laidBy}
+use Rattle.line.specs.Calls.{serialsAt, fitsBy, fitsOf, laidBy}
 
 -- f at the ith element, after f at the first i
 each-turn : {A : Type 0} (f : A → A) (d : A) (i : ℕ) (xs : List A) → i < length xs
@@ -70,13 +72,13 @@ fit-each f k zero hs e = refl
 fit-each f k (suc n) [] e = refl
 fit-each f k (suc n) (h ∷ hs) e = let b = and-eq-true-iff _ _ .0 e in and-eq-true-iff _ _ .1 (k h (b .0), fit-each f k n hs (b .1))
 
--- and where one that is well-formed is put in a place
-pub fit-set : (d h : Head) (i n : ℕ) (hs : List Head) → i < n → (wellformedOf (getD hs i d) ≡ true → wellformedOf h ≡ true)
-    → allFit n hs ≡ true → allFit n (set hs i h) ≡ true
-fit-set d h i zero hs p k e = refl
-fit-set d h i (suc n) [] p k e = refl
-fit-set d h zero (suc n) (x ∷ xs) p k e = let b = and-eq-true-iff _ _ .0 e in and-eq-true-iff _ _ .1 (k (b .0), b .1)
-fit-set d h (suc i) (suc n) (x ∷ xs) p k e = rest (wellformedOf x) _ _ (fit-set d h i n xs (le-of-suc-le-suc p) k) e
+-- the first n pass where one that does is put in a place
+pub fit-set : (b : Bool) (d h : Head) (i n : ℕ) (hs : List Head) → i < n → (passesOf b (getD hs i d) ≡ true → passesOf b h ≡ true)
+    → allPass b n hs ≡ true → allPass b n (set hs i h) ≡ true
+fit-set b d h i zero hs p k e = refl
+fit-set b d h i (suc n) [] p k e = refl
+fit-set b d h zero (suc n) (x ∷ xs) p k e = let q = and-eq-true-iff _ _ .0 e in and-eq-true-iff _ _ .1 (k (q .0), q .1)
+fit-set b d h (suc i) (suc n) (x ∷ xs) p k e = rest (passesOf b x) _ _ (fit-set b d h i n xs (le-of-suc-le-suc p) k) e
 
 -- one more head, put in the next place
 pub fit-grown : (h : Head) (n : ℕ) (hs : List Head) → wellformedOf h ≡ true → allFit n hs ≡ true → allFit (suc n) (set hs n h) ≡ true
@@ -84,17 +86,17 @@ fit-grown h n [] k e = refl
 fit-grown h zero (x ∷ xs) k e = and-eq-true-iff _ _ .1 (k, refl)
 fit-grown h (suc n) (x ∷ xs) k e = rest (wellformedOf x) _ _ (fit-grown h n xs k) e
 
--- each of the first n is well-formed, and where there are fewer, what stands in for a missing one
-pub fit-at : (d : Head) → wellformedOf d ≡ true → (k n : ℕ) (hs : List Head) → k < n → allFit n hs ≡ true → wellformedOf (getD hs k d) ≡ true
-fit-at d w k zero hs p e = absurd (not-suc-le-zero p)
-fit-at d w k (suc n) [] p e = w
-fit-at d w zero (suc n) (h ∷ hs) p e = and-eq-true-iff (wellformedOf h) _ .0 e .0
-fit-at d w (suc k) (suc n) (h ∷ hs) p e = fit-at d w k n hs (le-of-suc-le-suc p) (and-eq-true-iff (wellformedOf h) _ .0 e .1)
+-- each of the first n passes, and where there are fewer, what stands in for a missing one
+pub fit-at : (b : Bool) (d : Head) → passesOf b d ≡ true → (k n : ℕ) (hs : List Head) → k < n → allPass b n hs ≡ true → passesOf b (getD hs k d) ≡ true
+fit-at b d w k zero hs p e = absurd (not-suc-le-zero p)
+fit-at b d w k (suc n) [] p e = w
+fit-at b d w zero (suc n) (h ∷ hs) p e = and-eq-true-iff (passesOf b h) _ .0 e .0
+fit-at b d w (suc k) (suc n) (h ∷ hs) p e = fit-at b d w k n hs (le-of-suc-le-suc p) (and-eq-true-iff (passesOf b h) _ .0 e .1)
 
-pub fit-turn : (d : Head) (i : ℕ) (hs : List Head) → i < length hs → allFit (suc i) hs ≡ (allFit i hs && wellformedOf (getD hs i d))
-fit-turn d i [] p = absurd (not-suc-le-zero p)
-fit-turn d zero (h ∷ hs) p = and-true _
-fit-turn d (suc i) (h ∷ hs) p = rw (fit-turn d i hs (le-of-suc-le-suc p), and-assoc)
+pub fit-turn : (b : Bool) (d : Head) (i : ℕ) (hs : List Head) → i < length hs → allPass b (suc i) hs ≡ (allPass b i hs && passesOf b (getD hs i d))
+fit-turn b d i [] p = absurd (not-suc-le-zero p)
+fit-turn b d zero (h ∷ hs) p = and-true _
+fit-turn b d (suc i) (h ∷ hs) p = rw (fit-turn b d i hs (le-of-suc-le-suc p), and-assoc)
 
 replies-turn : (f : Head → Stepped) (d : Head) (i : ℕ) (hs : List Head) → i < length hs
     → repliesBy f (suc i) hs ≡ repliesBy f i hs ++ saidBy (f (getD hs i d))
@@ -168,29 +170,52 @@ few f (suc n) (h ∷ hs) = rw (length-append (saidBy (f h))) (omega (arith, few 
 pub heard-few : {f : Head → Stepped} {l : Line} {i : ℕ} {k : Line} {r : Replies} → Heard f l i k r → r .count ≤ i
 heard-few {f} {l} {i} t = rw (t .replies) (few f i (l .heads))
 
--- a line that fits has at most 32 heads, all well-formed, and their serial numbers differ
-pub fits-small : (l : Line) → fitsOf l ≡ true → l .count ≤ 32
-unfolding fitsOf
-fits-small l e = leb-true _ _ (and-eq-true-iff _ _ .0 e .0)
+-- a line that passes the test has at most 32 heads, which all pass theirs, and their serial numbers differ
+module _ (b : Bool) (l : Line) where
+  pub by-small : fitsBy b l ≡ true → l .count ≤ 32
+  unfolding fitsBy
+  by-small e = leb-true _ _ (and-eq-true-iff _ _ .0 e .0)
 
-fits-both : (l : Line) → fitsOf l ≡ true → (allFit (l .count) (l .heads) ≡ true) × (allDiffer (serialsAt l) ≡ true)
-unfolding fitsOf
-fits-both l e = and-eq-true-iff _ _ .0 (and-eq-true-iff (leb (l .count) 32) _ .0 e .1)
+  by-both : fitsBy b l ≡ true → (allPass b (l .count) (l .heads) ≡ true) × (allDiffer (serialsAt l) ≡ true)
+  unfolding fitsBy
+  by-both e = and-eq-true-iff _ _ .0 (and-eq-true-iff (leb (l .count) 32) _ .0 e .1)
+
+  pub by-heads : fitsBy b l ≡ true → allPass b (l .count) (l .heads) ≡ true
+  by-heads e = by-both e .0
+
+  pub by-serials : fitsBy b l ≡ true → allDiffer (serialsAt l) ≡ true
+  by-serials e = by-both e .1
+
+  -- with at most 32, it passes where its heads do and their serial numbers differ
+  pub by-few : l .count ≤ 32 → fitsBy b l ≡ (allPass b (l .count) (l .heads) && allDiffer (serialsAt l))
+  unfolding fitsBy
+  by-few p = rw (le-leb _ _ p)
+
+  pub by-over : 32 < l .count → fitsBy b l ≡ false
+  unfolding fitsBy
+  by-over p = rw (lt-leb _ _ p)
+
+-- so has a line that fits, whose heads are well-formed
+pub fits-small : (l : Line) → fitsOf l ≡ true → l .count ≤ 32
+fits-small l e = by-small false l e
 
 pub fits-heads : (l : Line) → fitsOf l ≡ true → allFit (l .count) (l .heads) ≡ true
-fits-heads l e = fits-both l e .0
+fits-heads l e = by-heads false l e
 
 pub fits-serials : (l : Line) → fitsOf l ≡ true → allDiffer (serialsAt l) ≡ true
-fits-serials l e = fits-both l e .1
+fits-serials l e = by-serials false l e
 
--- with at most 32, a line fits where its heads are well-formed and their serial numbers differ
 pub fits-few : (l : Line) → l .count ≤ 32 → fitsOf l ≡ (allFit (l .count) (l .heads) && allDiffer (serialsAt l))
-unfolding fitsOf
-fits-few l p = rw (le-leb _ _ p)
+fits-few l p = by-few false l p
 
-pub fits-over : (l : Line) → 32 < l .count → fitsOf l ≡ false
-unfolding fitsOf
-fits-over l p = rw (lt-leb _ _ p)
+-- a line that fits passes either test
+pass-either : (b : Bool) (n : ℕ) (hs : List Head) → allFit n hs ≡ true → allPass b n hs ≡ true
+pass-either b zero hs e = refl
+pass-either b (suc n) [] e = refl
+pass-either b (suc n) (h ∷ hs) e = let q = and-eq-true-iff _ _ .0 e in and-eq-true-iff _ _ .1 (passes b h (q .0), pass-either b n hs (q .1))
+
+pub fits-either : (b : Bool) (l : Line) → fitsOf l ≡ true → fitsBy b l ≡ true
+fits-either b l f = by-few b l (fits-small l f) ∙ rw (pass-either b (l .count) (l .heads) (fits-heads l f), fits-serials l f)
 
 -- an element put back where it stood
 pub set-back : {A : Type 0} (d : A) (i : ℕ) (xs : List A) → set xs i (getD xs i d) ≡ xs

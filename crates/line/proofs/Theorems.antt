@@ -14,6 +14,7 @@ use lib.ListN.{length, set, length-set}
 use lib.Seq.{getD-set-same, getD-set-other}
 use Rattle.state.specs.declared.parts.Head.{Head}
 use Rattle.state.specs.Wellformed.{wellformedOf}
+use Rattle.state.specs.Older.{passesOf}
 use Rattle.effects.specs.Stored.{restartedStored}
 use Rattle.effects.specs.Restart.{restartedOf, freshOf}
 use Rattle.head.specs.declared.refusal.Refusal.{Refusal}
@@ -28,7 +29,7 @@ use Rattle.head.specs.Calls as head
 use Rattle.head.specs.Calls.{Tests, guarded, factoryOf}
 use Rattle.head.specs.Outcome.{keys, ofHeard}
 use Rattle.head.proofs.Tests.{Hold, either, part}
-use Rattle.head.proofs.Asked.{lent-keys-fits, lent-keys-same}
+use Rattle.head.proofs.Asked.{passes, lent-keys-fits, lent-keys-same}
 use Rattle.head.proofs.Refused.{refused-nothing}
 use Rattle.head.proofs.Serials.{step-serial, tick-serial, keys-serial}
 use Rattle.head.proofs.Keeps.{fresh-fits, factory-fits, step-fits, tick-fits}
@@ -37,9 +38,9 @@ use Rattle.line.specs.declared.calls.Called.{Called}
 use Rattle.line.specs.declared.calls.Fed.{Fed}
 use Rattle.line.specs.Round.{each, allFit, steppedBy, tickedAt}
 use Rattle.line.specs.Serials.{serialsOf}
-use Rattle.line.specs.Calls.{emptyOf, serialsAt, fitsOf, doneWith, refusedWith, headAt, placedOf, grownBy, growTests, growOf}
-use Rattle.line.specs.Calls.{repliesAt, heardBy, byteOf, laidBy, byteSpaceOf, tickOf, putBack, namedTests, namedOf, unfed, putBackFed, keysOf, keysSpaceOf}
-use Rattle.line.proofs.Laws.{each-here, each-past, each-length, fit-each, fit-set, fit-grown, fits-small, fits-heads, fits-serials, fits-few, fit-at, set-back}
+use Rattle.line.specs.Calls.{emptyOf, serialsAt, fitsBy, fitsOf, doneWith, refusedWith, headAt, placedOf, grownBy, growTests, growOf}
+use Rattle.line.specs.Calls.{repliesAt, heardBy, byteOf, laidBy, byteSpaceOf, tickOf, putBack, namedBy, namedTests, namedOf, unfed, putBackFed, keysOf, keysSpaceOf}
+use Rattle.line.proofs.Laws.{each-here, each-past, each-length, fit-each, fit-set, fit-grown, by-small, by-heads, fits-small, fits-heads, fits-serials, fits-few, fit-at, set-back}
 use Rattle.line.proofs.Apart.{differ-last, serials-set, serials-each, serials-grown}
 
 -- ---- which refusal, exactly when: the tests of each call in their order
@@ -76,18 +77,18 @@ module _ (l : Line) where
   unfolding tickOf
   tick-when at = refl
 
-  pub named-when : (i : ℕ) (c : alone.Called) → namedOf l i c ≡ guarded (refusedWith l) (namedTests l i) (putBack l i c)
+  pub named-when : (b : Bool) (i : ℕ) (c : alone.Called) → namedOf b l i c ≡ guarded (refusedWith l) (namedBy b l i) (putBack l i c)
   unfolding namedOf
-  named-when i c = refl
+  named-when b i c = refl
 
   -- the line after a call that names a head, of which the call on that head alone makes h
-  abbrev pub namedLine : ℕ → Head → Line
-  namedLine i h = guarded (λ why. l) (namedTests l i) (placedOf l i h)
+  abbrev pub namedLine : Bool → ℕ → Head → Line
+  namedLine b i h = guarded (λ why. l) (namedBy b l i) (placedOf l i h)
 
-  pub named-line : (i : ℕ) (c : alone.Called) → namedOf l i c .line ≡ namedLine i (c .head)
-  named-line i c = rw (named-when i c) (part (λ (x : Called). x .line) (refusedWith l) (putBack l i c) (namedTests l i))
+  pub named-line : (b : Bool) (i : ℕ) (c : alone.Called) → namedOf b l i c .line ≡ namedLine b i (c .head)
+  named-line b i c = rw (named-when b i c) (part (λ (x : Called). x .line) (refusedWith l) (putBack l i c) (namedBy b l i))
 
-  pub keys-line : (i s room : ℕ) → keysOf l i s room .line ≡ namedLine i (head.keysOf (headAt l i) s room .head)
+  pub keys-line : (i s room : ℕ) → keysOf l i s room .line ≡ namedLine false i (head.keysOf (headAt l i) s room .head)
   unfolding keysOf
   keys-line i s room = part (λ (x : Fed). x .line) (unfed l) (putBackFed l i (head.keysOf (headAt l i) s room)) (namedTests l i)
 
@@ -107,11 +108,12 @@ module _ (l : Line) where
   tick-refused at = rw (tick-when l at) (untouched (tickTests l) _)
 
   -- where the call on the head alone leaves a refused head as it was
-  pub named-refused : (i : ℕ) (c : alone.Called) → ((why : Refusal) → c .answer ≡ answer.Refused why → c .head ≡ headAt l i) → Untouched l (namedOf l i c)
+  pub named-refused : (b : Bool) (i : ℕ) (c : alone.Called) → ((why : Refusal) → c .answer ≡ answer.Refused why → c .head ≡ headAt l i)
+      → Untouched l (namedOf b l i c)
   unfolding placedOf
-  named-refused i c k =
-      rw (named-when l i c)
-      (either (Untouched l) (refusedWith l) (putBack l i c) (namedTests l i) (λ w why e. refl)
+  named-refused b i c k =
+      rw (named-when l b i c)
+      (either (Untouched l) (refusedWith l) (putBack l i c) (namedBy b l i) (λ w why e. refl)
       (λ h why e. rw (k why e, set-back (factoryOf 0) i (l .heads))))
 
   -- a refused key state too
@@ -154,32 +156,39 @@ module _ (l : Line) where
 abbrev pub OnlyAt : Line → ℕ → Line → Type 0
 OnlyAt l i k = (k .count ≡ l .count) × ((j : ℕ) → j ≢ i → headAt k j ≡ headAt l j)
 
-named-only : (l : Line) (i : ℕ) (h : Head) → OnlyAt l i (namedLine l i h)
+named-only : (l : Line) (b : Bool) (i : ℕ) (h : Head) → OnlyAt l i (namedLine l b i h)
 unfolding placedOf
-named-only l i h =
-    either (λ (k : Line). OnlyAt l i k) (λ why. l) (placedOf l i h) (namedTests l i) (λ why. (refl, λ j n. refl))
+named-only l b i h =
+    either (λ (k : Line). OnlyAt l i k) (λ why. l) (placedOf l i h) (namedBy b l i) (λ why. (refl, λ j n. refl))
     (λ _. (refl, λ j n. getD-set-other (l .heads) i j h (factoryOf 0) n))
 
-pub named-one : (l : Line) (i : ℕ) (c : alone.Called) → OnlyAt l i (namedOf l i c .line)
-named-one l i c = rw (named-line l i c) (named-only l i (c .head))
+pub named-one : (l : Line) (b : Bool) (i : ℕ) (c : alone.Called) → OnlyAt l i (namedOf b l i c .line)
+named-one l b i c = rw (named-line l b i c) (named-only l b i (c .head))
 
 pub keys-one : (l : Line) (i s room : ℕ) → OnlyAt l i (keysOf l i s room .line)
-keys-one l i s room = rw (keys-line l i s room) (named-only l i (head.keysOf (headAt l i) s room .head))
+keys-one l i s room = rw (keys-line l i s room) (named-only l false i (head.keysOf (headAt l i) s room .head))
 
--- ---- a head below the count of a line that fits is well-formed
+-- ---- a head below the count of a line that passes the test passes its own; on one that fits it is well-formed
+pub pass-at : (b : Bool) (l : Line) → fitsBy b l ≡ true → (i : ℕ) → i < l .count → passesOf b (headAt l i) ≡ true
+pass-at b l f i p = fit-at b (factoryOf 0) (passes b (factoryOf 0) (factory-fits 0)) i (l .count) (l .heads) p (by-heads b l f)
+
 pub well-at : (l : Line) → fitsOf l ≡ true → (i : ℕ) → i < l .count → wellformedOf (headAt l i) ≡ true
-well-at l f i p = fit-at (factoryOf 0) (factory-fits 0) i (l .count) (l .heads) p (fits-heads l f)
+well-at l f i p = pass-at false l f i p
 
 -- ---- where a call is done, each head that it reaches becomes what the call makes of that head alone
+within : (b : Bool) (l : Line) → fitsBy b l ≡ true → length (l .heads) ≡ 32 → (i : ℕ) → i < l .count → i < length (l .heads)
+within b l f e i p = let q : l .count ≤ 32 = by-small b l f in omega arith
+
+pub named-there : (b : Bool) (l : Line) → fitsBy b l ≡ true → length (l .heads) ≡ 32 → (i : ℕ) → i < l .count → (c : alone.Called)
+    → (namedOf b l i c .answer ≡ c .answer) × (headAt (namedOf b l i c .line) i ≡ c .head)
+unfolding namedOf placedOf
+named-there b l f e i p c = (rw (f, lt-ltb _ _ p), rw (f, lt-ltb _ _ p) (getD-set-same (l .heads) i (c .head) (factoryOf 0) (within b l f e i p)))
+
 module _ (l : Line) (f : fitsOf l ≡ true) (e : length (l .heads) ≡ 32) where
   here : (i : ℕ) → i < l .count → i < length (l .heads)
-  here i p = let q : l .count ≤ 32 = fits-small l f in omega arith
+  here i p = within false l f e i p
 
   module _ (i : ℕ) (p : i < l .count) where
-    pub named-there : (c : alone.Called) → (namedOf l i c .answer ≡ c .answer) × (headAt (namedOf l i c .line) i ≡ c .head)
-    unfolding namedOf placedOf
-    named-there c = (rw (f, lt-ltb _ _ p), rw (f, lt-ltb _ _ p) (getD-set-same (l .heads) i (c .head) (factoryOf 0) (here i p)))
-
     pub keys-there : (s room : ℕ) → let alone = head.keysOf (headAt l i) s room in
         (keysOf l i s room .heard ≡ alone .heard) × (headAt (keysOf l i s room .line) i ≡ alone .head)
     unfolding keysOf placedOf
@@ -222,7 +231,7 @@ pub record Kept (l k : Line) : Type 0 where
   pub serials : serialsAt k ≡ serialsAt l
 
 pub empty-fits : (fitsOf emptyOf ≡ true) × (length (emptyOf .heads) ≡ 32)
-unfolding emptyOf fitsOf
+unfolding emptyOf fitsBy
 empty-fits = (refl, refl)
 
 -- as many heads, well-formed where they were, with the serial numbers that they had
@@ -242,7 +251,7 @@ module _ (l : Line) where
       let s = serials-set (factoryOf 0) h i (l .count) (l .heads) e in
       record {
         count = refl;
-        fits = refit l (set (l .heads) i h) (fit-set (factoryOf 0) h i (l .count) (l .heads) (ltb-true _ _ p) k) s;
+        fits = refit l (set (l .heads) i h) (fit-set false (factoryOf 0) h i (l .count) (l .heads) (ltb-true _ _ p) k) s;
         places = length-set (l .heads) i h;
         serials = s;
       }
@@ -267,17 +276,17 @@ module _ (l : Line) where
       (λ h. each-kept (tickedAt at) (λ x. tick-fits x at) (λ x. tick-serial x at)))
 
   -- where the call on the head alone keeps it well-formed, and its serial number
-  named-kept : (i : ℕ) (h : Head) → (wellformedOf (headAt l i) ≡ true → wellformedOf h ≡ true) → h .stored .serial ≡ headAt l i .stored .serial
-      → Kept l (namedLine l i h)
-  named-kept i h k e = either (λ (x : Line). Kept l x) (λ why. l) (placedOf l i h) (namedTests l i) (λ why. unmoved l) (λ t. placed-kept i h (t .1 .0) k e)
+  named-kept : (b : Bool) (i : ℕ) (h : Head) → (wellformedOf (headAt l i) ≡ true → wellformedOf h ≡ true) → h .stored .serial ≡ headAt l i .stored .serial
+      → Kept l (namedLine l b i h)
+  named-kept b i h k e = either (λ (x : Line). Kept l x) (λ why. l) (placedOf l i h) (namedBy b l i) (λ why. unmoved l) (λ t. placed-kept i h (t .1 .0) k e)
 
-  pub named-keeps : (i : ℕ) (c : alone.Called) → (wellformedOf (headAt l i) ≡ true → wellformedOf (c .head) ≡ true)
-      → c .head .stored .serial ≡ headAt l i .stored .serial → Kept l (namedOf l i c .line)
-  named-keeps i c k e = rw (named-line l i c) (named-kept i (c .head) k e)
+  pub named-keeps : (b : Bool) (i : ℕ) (c : alone.Called) → (wellformedOf (headAt l i) ≡ true → wellformedOf (c .head) ≡ true)
+      → c .head .stored .serial ≡ headAt l i .stored .serial → Kept l (namedOf b l i c .line)
+  named-keeps b i c k e = rw (named-line l b i c) (named-kept b i (c .head) k e)
 
   pub keys-keeps : (i s room : ℕ) → Kept l (keysOf l i s room .line)
   keys-keeps i s room =
-      rw (keys-line l i s room) (named-kept i _ (lent-keys-fits (headAt l i) s room) (keys-serial (headAt l i) s room))
+      rw (keys-line l i s room) (named-kept false i _ (lent-keys-fits (headAt l i) s room) (keys-serial (headAt l i) s room))
 
 -- and so does one that is grown, but that the new head's serial number stands after the others
 fresh-serial : (node serial : ℕ) → freshOf node serial .stored .serial ≡ serial

@@ -1,8 +1,8 @@
--- The calls on a line and their refusals (document 01, "The line, and calls refused"; keys, sheets and serial numbers: document 02, requests (ii),
--- (vii) and (xi)).
+-- The calls on a line and their refusals (document 01, "The line, and calls refused"; keys, sheets, serial numbers and older heads: document
+-- 02, requests (ii), (vii), (xi) and (xii)).
 -- Assumes nothing.
 use Prim.Native.Nat.{ℕ, _+_}
-use mathlib.Core.Bool.{Bool, cond, not, _&&_}
+use mathlib.Core.Bool.{Bool, true, false, cond, not, _&&_}
 use mathlib.Core.List.{List, [], _∷_}
 use lib.Dec.{leb, ltb}
 use lib.IntN.{ℤ}
@@ -27,7 +27,7 @@ use Rattle.line.specs.declared.calls.Line.{Line}
 use Rattle.line.specs.declared.calls.Called.{Called}
 use Rattle.line.specs.declared.calls.Fed.{Fed}
 use Rattle.line.specs.Serials.{serialsOf, allDiffer}
-use Rattle.line.specs.Round.{each, allFit, steppedBy, tickedAt, repliesOf}
+use Rattle.line.specs.Round.{each, allPass, steppedBy, tickedAt, repliesOf}
 
 -- a call that was done, and one that was refused: the line is as it was
 abbrev pub doneWith : Line → Called
@@ -47,9 +47,13 @@ emptyOf = record { heads = replicate 32 (factoryOf 0); count = 0 }
 abbrev pub serialsAt : Line → List ℕ
 serialsAt l = serialsOf (l .count) (l .heads)
 
--- refusal 20: over 32 heads, or of those below the count one malformed or two with one serial number
-unfoldable pub fitsOf : Line → Bool
-fitsOf l = leb (l .count) 32 && (allFit (l .count) (l .heads) && allDiffer (serialsAt l))
+-- refusal 20: over 32 heads, or of those below the count one that its test does not let pass or two with one serial number. The test of each head is the
+-- old one where the call brings a head over, so that older heads are brought over one after another
+unfoldable pub fitsBy : Bool → Line → Bool
+fitsBy bringing l = leb (l .count) 32 && (allPass bringing (l .count) (l .heads) && allDiffer (serialsAt l))
+
+abbrev pub fitsOf : Line → Bool
+fitsOf l = fitsBy false l
 
 abbrev pub headAt : Line → ℕ → Head
 headAt l i = getD (l .heads) i (factoryOf 0)
@@ -98,19 +102,22 @@ unfoldable pub tickOf : Line → ℕ → Called
 tickOf l at =
     cond (fitsOf l) (doneWith (record { heads = each (tickedAt at) (l .count) (l .heads); count = l .count })) (refusedWith l Malformed)
 
--- a call that names a head: 20, then 3 for a head number not below the count; then it is the call on that head alone, c, with its own refusals
+-- a call that names a head: 20, by the test that it is told, then 3 for a head number not below the count; then it is the call on that head alone, c, with its own refusals
 -- and its answer. That head becomes what it becomes alone, and no other changes
 abbrev pub putBack : Line → ℕ → alone.Called → Called
 putBack l i c = record { line = placedOf l i (c .head); answer = c .answer }
 
-abbrev pub namedTests : Line → ℕ → Tests
-namedTests l i = (fitsOf l, Malformed) ∷ (ltb i (l .count), NoHead) ∷ []
+abbrev pub namedBy : Bool → Line → ℕ → Tests
+namedBy bringing l i = (fitsBy bringing l, Malformed) ∷ (ltb i (l .count), NoHead) ∷ []
 
-unfoldable pub namedOf : Line → ℕ → alone.Called → Called
-namedOf l i c = guarded (refusedWith l) (namedTests l i) (putBack l i c)
+abbrev pub namedTests : Line → ℕ → Tests
+namedTests l i = namedBy false l i
+
+unfoldable pub namedOf : Bool → Line → ℕ → alone.Called → Called
+namedOf bringing l i c = guarded (refusedWith l) (namedBy bringing l i) (putBack l i c)
 
 unfoldable pub measureOf : Line → ℕ → ℤ → Called
-measureOf l i m = namedOf l i (head.measureOf (headAt l i) m)
+measureOf l i m = namedOf false l i (head.measureOf (headAt l i) m)
 
 -- a key state of one head, with the space that is lent: the same, and the space is as that head alone leaves it
 abbrev pub putBackFed : Line → ℕ → lent.Fed → Fed
@@ -123,7 +130,11 @@ unfoldable pub keysSpaceOf : Line → ℕ → ℕ → List ℕ → List ℕ
 keysSpaceOf l i state space = guarded (λ why. space) (namedTests l i) (head.keysSpaceOf (headAt l i) state space)
 
 unfoldable pub powerOf : Line → ℕ → Called
-powerOf l i = namedOf l i (head.powerOf (headAt l i))
+powerOf l i = namedOf false l i (head.powerOf (headAt l i))
+
+-- an older head is brought over, whatever other older heads there are
+unfoldable pub bringOf : Line → ℕ → Called
+bringOf l i = namedOf true l i (head.bringOf (headAt l i))
 
 -- the last non-zero exclusive-or of one head: it names the head too, and hands back no line
 unfoldable pub lastHitOf : Line → ℕ → Hit
@@ -135,7 +146,7 @@ serialNumberOf l i = guarded serial.Refused (namedTests l i) (head.serialNumberO
 
 -- a sheet is loaded into one head
 unfoldable pub loadOf : Line → ℕ → List ℕ → Called
-loadOf l i s = namedOf l i (head.loadOf (headAt l i) s)
+loadOf l i s = namedOf false l i (head.loadOf (headAt l i) s)
 
 -- the settings of one head are written on a sheet: it hands back no line, and the space is as that head alone leaves it
 unfoldable pub saveOf : Line → ℕ → ℕ → Answer

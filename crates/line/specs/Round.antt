@@ -2,12 +2,12 @@
 -- does what it does alone. Heads do not hear replies.
 -- Assumes nothing.
 use Prim.Native.Nat.{ℕ, zero, suc, _+_}
-use mathlib.Core.Bool.{Bool, true, cond, _&&_}
+use mathlib.Core.Bool.{Bool, true, false, cond, _&&_}
 use mathlib.Core.List.{List, [], _∷_, _++_}
 use lib.Dec.{eqb}
 use lib.ListN.{replicate}
 use Rattle.state.specs.declared.parts.Head.{Head}
-use Rattle.state.specs.Wellformed.{wellformedOf}
+use Rattle.state.specs.Older.{passesOf}
 use Rattle.head.specs.declared.hear.Stepped.{Stepped}
 use Rattle.head.specs.Hear.{stepOf}
 use Rattle.head.specs.Moves.{tickedOf}
@@ -20,11 +20,15 @@ each f zero xs = xs
 each f (suc n) [] = []
 each f (suc n) (x ∷ xs) = f x ∷ each f n xs
 
--- the first n heads are well-formed
+-- the first n heads pass refusal 20's test, which is the old one where the call brings a head over
+abbrev pub allPass : Bool → ℕ → List Head → Bool
+allPass bringing zero hs = true
+allPass bringing (suc n) [] = true
+allPass bringing (suc n) (h ∷ hs) = passesOf bringing h && allPass bringing n hs
+
+-- they are well-formed
 abbrev pub allFit : ℕ → List Head → Bool
-allFit zero hs = true
-allFit (suc n) [] = true
-allFit (suc n) (h ∷ hs) = wellformedOf h && allFit n hs
+allFit n hs = allPass false n hs
 
 -- a head after a byte, and after a tick
 abbrev pub steppedBy : ℕ → ℕ → Head → Head

@@ -10,14 +10,14 @@ use head::calls::Serial;
 use head::hear;
 use head::moves;
 use head::refusal::Refusal;
+use state::older;
 use state::parts::Head;
-use state::wellformed;
 ghost use mathlib.Core.Path.{_≡_};
 ghost use mathlib.Core.Bool.{Bool};
 ghost use Prim.Native.Nat.{_≤_};
 ghost use lib.ListN.{length, drop};
 ghost use Rattle.rows.specs.Among.{among};
-ghost use Rattle.line.specs.Calls.{emptyOf, serialsAt, fitsOf, doneWith, refusedWith, headAt, placedOf, growOf, byteOf, byteSpaceOf, tickOf, namedOf, measureOf, unfed, keysOf, keysSpaceOf, powerOf, lastHitOf, serialNumberOf, loadOf, saveOf, saveSpaceOf};
+ghost use Rattle.line.specs.Calls.{emptyOf, serialsAt, fitsBy, fitsOf, doneWith, refusedWith, headAt, placedOf, growOf, byteOf, byteSpaceOf, tickOf, namedOf, measureOf, unfed, keysOf, keysSpaceOf, powerOf, bringOf, lastHitOf, serialNumberOf, loadOf, saveOf, saveSpaceOf};
 ghost use Rattle.line.specs.Stretch.{untilOf, untilSpaceOf};
 
 // Places for 32 heads, of which the first `count` are on the wire.
@@ -65,10 +65,10 @@ pub fn count(l: Line) -> usize
     l.count
 }
 
-// Whether the line is one that can be: at most 32 heads, each below the count well-formed, no two with one serial number. The serial numbers are
-// gathered on the way, so that each head is read once.
-pub fn fits(l: Line) -> bool
-    ensures { λ r. ⌜ r ≡ fitsOf l ⌝ }
+// Whether the line is one that can be: at most 32 heads, each below the count let pass by its test, no two with one serial number. The serial numbers
+// are gathered on the way, so that each head is read once.
+fn fits_by(bringing: bool, l: Line) -> bool
+    ensures { λ r. ⌜ r ≡ fitsBy bringing l ⌝ }
 {
     let n = l.count;
     if n <= 32 {
@@ -78,13 +78,20 @@ pub fn fits(l: Line) -> bool
         while i < n {
             let h = l.heads[i];
             let s = h.stored;
-            ok = ok & wellformed::wellformed(h) & !serials::stands(serials, i, s.serial);
+            ok = ok & older::passes(bringing, h) & !serials::stands(serials, i, s.serial);
             serials[i] = s.serial;
             i += 1;
         }
         return ok;
     }
     false
+}
+
+// Whether every call takes the line: each head is well-formed. The call that brings a head over takes one with older heads too.
+pub fn fits(l: Line) -> bool
+    ensures { λ r. ⌜ r ≡ fitsOf l ⌝ }
+{
+    fits_by(false, l)
 }
 
 fn done(l: Line) -> Called
@@ -250,10 +257,10 @@ pub fn tick(l: Line, at: u32) -> Called
 }
 
 // A call that names a head: 20, then 3, then what the call made of that head alone, put back in its place, with its answer.
-fn named(l: Line, i: usize, c: calls::Called) -> Called
-    ensures { λ r. ⌜ r ≡ namedOf l i c ⌝ }
+fn named(bringing: bool, l: Line, i: usize, c: calls::Called) -> Called
+    ensures { λ r. ⌜ r ≡ namedOf bringing l i c ⌝ }
 {
-    if fits(l) {
+    if fits_by(bringing, l) {
         if i < l.count {
             let a = c.answer;
             return Called {
@@ -270,7 +277,7 @@ fn named(l: Line, i: usize, c: calls::Called) -> Called
 pub fn measure(l: Line, i: usize, m: i32) -> Called
     ensures { λ r. ⌜ r ≡ measureOf l i m ⌝ }
 {
-    named(l, i, calls::measure(head_at(l, i), m))
+    named(false, l, i, calls::measure(head_at(l, i), m))
 }
 
 fn unfed(l: Line, why: Refusal) -> Fed
@@ -305,7 +312,14 @@ pub fn keys(l: Line, i: usize, state: u32, space: &mut [u8]) -> Fed
 pub fn power(l: Line, i: usize) -> Called
     ensures { λ r. ⌜ r ≡ powerOf l i ⌝ }
 {
-    named(l, i, calls::power(head_at(l, i)))
+    named(false, l, i, calls::power(head_at(l, i)))
+}
+
+// An older head brought over, whatever other older heads there are.
+pub fn bring(l: Line, i: usize) -> Called
+    ensures { λ r. ⌜ r ≡ bringOf l i ⌝ }
+{
+    named(true, l, i, calls::bring(head_at(l, i)))
 }
 
 // What the last damaged telegram that one head heard was hit by.
@@ -338,7 +352,7 @@ pub fn serial_number(l: Line, i: usize) -> Serial
 pub fn load(l: Line, i: usize, sheet: &[u8]) -> Called
     ensures { λ r. ⌜ r ≡ loadOf l i (now (sheet .entry)) ⌝ }
 {
-    named(l, i, calls::load(head_at(l, i), sheet))
+    named(false, l, i, calls::load(head_at(l, i), sheet))
 }
 
 // The settings of one head written on a sheet at the start of the space: 20, then 3, then what the head alone writes.

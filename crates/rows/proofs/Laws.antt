@@ -4,13 +4,13 @@
 use mathlib.Core.Path.{_≡_, refl, sym, _∙_}
 use mathlib.Core.Bool.{Bool, true, false, cond, true≢false}
 use mathlib.Core.List.{List, map}
-use Prim.Native.Nat.{ℕ, suc, _-_, _<_, _≤_}
+use Prim.Native.Nat.{ℕ, zero, suc, _-_, _<_, _≤_}
 use native.Mathlib.Omega.{arith}
-use lib.Dec.{ltb}
+use lib.Dec.{ltb, eqb}
 use lib.IntN.{ℤ, pos, negsuc, natAbs}
 use lib.ListN.{getD, set}
 use lib.Signed.{ltZ}
-use borrow.Author.Tests.{ltb-true, ltb-false, le-ltb}
+use borrow.Author.Tests.{ltb-true, ltb-false, le-ltb, lt-ltb, ne-eqb}
 use Rattle.signed.specs.Number.{numberOf}
 use Rattle.rows.specs.declared.table.Place.the-variants.{At}
 use Rattle.rows.specs.declared.range.Range.the-variants.{Right, Low, High}
@@ -93,6 +93,12 @@ offer-limits w h = go (ltb w 1) refl (ltb 31 w) refl (sym (offer-range w) ∙ h)
 size-limit : (n m : ℕ) (v : ℤ) → suc n ≤ m → (ltZ v (negsuc n) ≡ false) × (ltZ (pos m) v ≡ false) → natAbs v ≤ m
 size-limit n m (pos k) l h = ltb-false m k (h .1)
 size-limit n m (negsuc k) l h = omega (arith, ltb-false n k (h .0))
+
+-- 35h's row holds 0 alone
+pub retired-row : (w : ℕ) → fitsIn (rowOf 29) w ≡ eqb w 0
+unfolding rowOf rows fitsIn rangeIn betweenOf readingOf isSignedOf unlistedOf
+retired-row zero = refl
+retired-row (suc w) = simp (le-ltb (suc w) 0 (omega arith), lt-ltb 0 (suc w) (omega arith), ne-eqb (suc w) 0 (λ e. omega arith))
 
 pub offset-limits : (w : ℕ) → fitsIn (rowOf 18) w ≡ true → natAbs (numberOf w) ≤ 19999
 unfolding rowOf rows fitsIn rangeIn readingOf isSignedOf unlistedOf

@@ -1,4 +1,5 @@
--- The 39 rows of limits and delivery values (document 01, "Stored parameters"; 28h up to 3: document 02, request (ix)).
+-- The 39 rows of limits and delivery values (document 01, "Stored parameters"; 28h up to 3 and 35h retired: document 02, requests (ix) and
+-- (xii)).
 -- Assumes nothing.
 use Prim.Native.Nat.{ℕ, suc}
 use mathlib.Core.Bool.{Bool, true, false, cond}
@@ -59,7 +60,7 @@ rows =
     ∷ row 0x32 (pos 0) (pos 1) 0
     ∷ row 0x33 (pos 0) (pos 2) 0
     ∷ row 0x34 (pos 0) (pos 1) 0
-    ∷ row 0x35 (pos 0) (pos 1) 1
+    ∷ row 0x35 (pos 0) (pos 0) 0
     ∷ row 0x39 (pos 0) (pos 1) 1
     ∷ row 0x3A (pos 0) (pos 1) 0
     ∷ row 0x3B (pos 0) (pos 1) 1

@@ -69,7 +69,7 @@ const ROW_33: Row = Row(0x33, 0, 2, 0);
 
 const ROW_34: Row = Row(0x34, 0, 1, 0);
 
-const ROW_35: Row = Row(0x35, 0, 1, 1);
+const ROW_35: Row = Row(0x35, 0, 0, 0);
 
 const ROW_39: Row = Row(0x39, 0, 1, 1);
 

@@ -6,7 +6,7 @@ use mathlib.Core.Bool.{true}
 use mathlib.Core.List.{List, [], _∷_}
 use lib.IntN.{pos, negsuc}
 use Rattle.script.specs.declared.Command.{Command}
-use Rattle.script.specs.declared.Command.the-variants.{Blank, Malformed, Grow, Send, Tick, Measure, Keys, Power, Space, Xor, Ask, Save, Load, Rack}
+use Rattle.script.specs.declared.Command.the-variants.{Blank, Malformed, Grow, Send, Tick, Measure, Keys, Power, Space, Xor, Ask, Save, Load, Rack, Bring}
 use Rattle.script.specs.declared.arguments.Last.the-variants.{Nothing}
 use Rattle.text.specs.Text.{text}
 use Rattle.text.specs.Lines.{bareOf}
@@ -112,6 +112,17 @@ cases =
     ∷ "rack 0 -1" says Malformed
     ∷ "rack 0 0 00 00" says Malformed
     ∷ "Rack 0 0" says Malformed
+    ∷ "bring 0" says Bring 0
+    ∷ "bring 31" says Bring 31
+    ∷ "bring 4294967295" says Bring 4294967295
+    ∷ "\t bring\t0 \r" says Bring 0
+    ∷ "bring" says Malformed
+    ∷ "bring 0 0" says Malformed
+    ∷ "bring x" says Malformed
+    ∷ "bring -1" says Malformed
+    ∷ "bring 4294967296" says Malformed
+    ∷ "Bring 0" says Malformed
+    ∷ "brings 0" says Malformed
     ∷ "  # note" says Blank
     ∷ "\r" says Blank
     ∷ "" says Blank
@@ -119,7 +130,7 @@ cases =
 
 hold : Hold cases
 unfolding wordsOf bareOf sameOf numberOf signedOf hexOf countOf lastOf argumentsOf nameOf orderOf commandOf spokenOf meaningOf
-hold = (refl, (refl, (refl, (refl, (refl, (refl, (refl, (refl, (refl, (refl, (refl, (refl, (refl, (refl, (refl, (refl, (refl, (refl, (refl, (refl, (refl, (refl, (refl, (refl, (refl, (refl, (refl, (refl, (refl, (refl, (refl, (refl, (refl, (refl, (refl, (refl, (refl, (refl, (refl, (refl, (refl, (refl, (refl, (refl, (refl, (refl, (refl, (refl, (refl, (refl, (refl, (refl, (refl, (refl, (refl, (refl, (refl, (refl, (refl, (refl, (refl, (refl, (refl, (refl, (refl, (refl, (refl, (refl, (refl, (refl, (refl, (refl, (refl, (refl, (refl, (refl, (refl, (refl, (refl, (refl, (refl, (refl, (refl, (refl, (refl, (refl, tt))))))))))))))))))))))))))))))))))))))))))))))))))))))))))))))))))))))))))))))))))))))
+hold = (refl, (refl, (refl, (refl, (refl, (refl, (refl, (refl, (refl, (refl, (refl, (refl, (refl, (refl, (refl, (refl, (refl, (refl, (refl, (refl, (refl, (refl, (refl, (refl, (refl, (refl, (refl, (refl, (refl, (refl, (refl, (refl, (refl, (refl, (refl, (refl, (refl, (refl, (refl, (refl, (refl, (refl, (refl, (refl, (refl, (refl, (refl, (refl, (refl, (refl, (refl, (refl, (refl, (refl, (refl, (refl, (refl, (refl, (refl, (refl, (refl, (refl, (refl, (refl, (refl, (refl, (refl, (refl, (refl, (refl, (refl, (refl, (refl, (refl, (refl, (refl, (refl, (refl, (refl, (refl, (refl, (refl, (refl, (refl, (refl, (refl, (refl, (refl, (refl, (refl, (refl, (refl, (refl, (refl, (refl, (refl, (refl, tt)))))))))))))))))))))))))))))))))))))))))))))))))))))))))))))))))))))))))))))))))))))))))))))))))
 
 -- as many numbers as there may be, each in its place and up to its own limit
 six : argumentsOf (takesOf (1 ∷ 2 ∷ 3 ∷ 4 ∷ 5 ∷ 6 ∷ []) Nothing) (wordsOf (text "1 2 3 4 5 6")) ≡ givenOf true (1 ∷ 2 ∷ 3 ∷ 4 ∷ 5 ∷ 6 ∷ []) (pos 0) 0 0

@@ -78,6 +78,7 @@ Told ws (command.Ask t c n p w d) = Asking c n p w
 Told ws (command.Save h) = Unit {0}
 Told ws (command.Load h from n) = Carrying name.Load ws (h ∷ []) from n ⊎ Without name.Load ws (h ∷ []) n
 Told ws (command.Rack t p from n) = Carrying name.Rack ws (t ∷ p ∷ []) from n ⊎ Without name.Rack ws (t ∷ p ∷ []) n
+Told ws (command.Bring h) = Unit {0}
 
 of-test : (from : List Word) (b : Bool) (c d : Command) → Told from c → Told from d → Told from (cond b c d)
 of-test from true c d p q = p
@@ -213,6 +214,7 @@ told-order w ws name.Ask e = told-ask w ws
 told-order w ws name.Save e = of-fit (w ∷ ws) (argumentsOf (rowOf name.Save .takes) ws) _ tt
 told-order w ws name.Load e = told-load w ws e
 told-order w ws name.Rack e = told-rack w ws e
+told-order w ws name.Bring e = of-fit (w ∷ ws) (argumentsOf (rowOf name.Bring .takes) ws) _ tt
 
 told-command : (ws : List Word) → Told ws (commandOf ws)
 unfolding commandOf

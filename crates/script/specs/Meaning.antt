@@ -47,8 +47,8 @@ abbrev row : String → List ℕ → Last → (Arguments → Command) → Row
 row word limits after made = record { word = word; takes = takesOf limits after; made = made }
 
 -- any other word, which makes no command, then head NODE SERIAL, send TIME HEX, tick TIME, measure HEAD VALUE, keys HEAD STATE, power HEAD,
--- space SIZE, xor HEAD, ask TIME COMMAND NODE PARAMETER WORD DATA, save HEAD, load HEAD HEX, rack TIME PLACE HEX; of a load and a rack HEX may be
--- left out
+-- space SIZE, xor HEAD, ask TIME COMMAND NODE PARAMETER WORD DATA, save HEAD, load HEAD HEX, rack TIME PLACE HEX, bring HEAD; of a load and a rack
+-- HEX may be left out
 abbrev pub rowOf : Name → Row
 rowOf name.Other = row "" [] last.Nothing (λ a. command.Malformed)
 rowOf name.Head = row "head" (whole ∷ whole ∷ []) last.Nothing (λ a. command.Grow (a .first) (a .second))
@@ -65,6 +65,7 @@ rowOf name.Ask =
 rowOf name.Save = row "save" (whole ∷ []) last.Nothing (λ a. command.Save (a .first))
 rowOf name.Load = row "load" (whole ∷ []) last.PerhapsBytes (λ a. command.Load (a .first) (a .from) (a .count))
 rowOf name.Rack = row "rack" (whole ∷ whole ∷ []) last.PerhapsBytes (λ a. command.Rack (a .first) (a .second) (a .from) (a .count))
+rowOf name.Bring = row "bring" (whole ∷ []) last.Nothing (λ a. command.Bring (a .first))
 
 -- the command whose word it is, in lower case; of the names gone through, `found` is the one so far
 abbrev pub names : List Name
@@ -81,6 +82,7 @@ names =
     ∷ name.Save
     ∷ name.Load
     ∷ name.Rack
+    ∷ name.Bring
     ∷ []
 
 abbrev nameIn : Name → List Name → List ℕ → Name

@@ -73,6 +73,7 @@ pub enum Command {
         from: usize,
         count: usize,
     },
+    Bring(u32),
 }
 
 // The command word, or any other.
@@ -90,6 +91,7 @@ enum Name {
     Save,
     Load,
     Rack,
+    Bring,
 }
 
 // What a line without its newline means. One of more than 4,097 bytes is malformed whatever it holds, so that its first 4,098 bytes do for it.
@@ -156,7 +158,8 @@ fn named(word: &[u8]) -> Name
     let ask = called(word, b"ask", Name::Ask, xor);
     let save = called(word, b"save", Name::Save, ask);
     let load = called(word, b"load", Name::Load, save);
-    called(word, b"rack", Name::Rack, load)
+    let rack = called(word, b"rack", Name::Rack, load);
+    called(word, b"bring", Name::Bring, rack)
 }
 
 // The command of that name with the words from the place `from` on.
@@ -189,6 +192,7 @@ fn takes(name: Name) -> Takes
         Name::Save => Takes([WHOLE, 0, 0, 0, 0, 0], 1, Last::Nothing),
         Name::Load => Takes([WHOLE, 0, 0, 0, 0, 0], 1, Last::PerhapsBytes),
         Name::Rack => Takes([WHOLE, WHOLE, 0, 0, 0, 0], 2, Last::PerhapsBytes),
+        Name::Bring => Takes([WHOLE, 0, 0, 0, 0, 0], 1, Last::Nothing),
     }
 }
 
@@ -239,5 +243,6 @@ fn made(name: Name, a: Arguments) -> Command
             from: a.from,
             count: a.count,
         },
+        Name::Bring => Command::Bring(a.first),
     }
 }

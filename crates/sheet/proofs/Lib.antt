@@ -4,6 +4,7 @@ pub mod Spelled
 pub mod Bytes
 pub mod Store
 pub mod Sheets
+pub mod Meant
 pub mod HandsOut
 pub mod Written
 pub mod Loads

@@ -2,7 +2,7 @@
 -- Assumes nothing.
 use Prim.Native.Nat.{ℕ, zero, suc, _≤_, _<_}
 use mathlib.Core.Path.{_≡_, refl, sym, ap, _∙_}
-use mathlib.Core.Bool.{true, false, true≢false}
+use mathlib.Core.Bool.{true, true≢false}
 use mathlib.Core.Logic.{⊎-elim}
 use mathlib.Core.List.{List}
 use native.Mathlib.Nat.{not-suc-le-zero}
@@ -16,8 +16,8 @@ use Rattle.rows.specs.declared.range.Range.the-variants.{Right, Low, High, Betw
 use Rattle.rows.specs.Table.{placeOf}
 use Rattle.rows.specs.Ranges.{rangeOf, isRight, allRightOf}
 use Rattle.rows.proofs.Laws.{place-below, place-address, range-fits, all-right-set}
-use Rattle.sheet.specs.Format.{countOf, addressOf, valueOf}
-use Rattle.sheet.specs.Loading.{fittingOf, allFittingOf, checkOf, storeAt, storeOf, storedRows, loadOf}
+use Rattle.sheet.specs.Format.{countOf, addressOf}
+use Rattle.sheet.specs.Loading.{meantAt, fittingOf, allFittingOf, checkOf, storeAt, storeOf, storedRows, loadOf}
 use Rattle.sheet.proofs.Each.{last, each-at}
 
 -- ---- one store
@@ -40,26 +40,26 @@ module _ (values s : List ℕ) where
   pub stored-length : (n : ℕ) → length (storedRows values s n) ≡ length values
   unfolding storeOf
   stored-length zero = refl
-  stored-length (suc n) = store-length (placeOf (addressOf s n)) (storedRows values s n) (valueOf s n) ∙ stored-length n
+  stored-length (suc n) = store-length (placeOf (addressOf s n)) (storedRows values s n) (meantAt s n) ∙ stored-length n
 
   -- a place whose address is not on the sheet
   pub stored-other : (n a i : ℕ) → placeOf a ≡ At i → ((j : ℕ) → j < n → addressOf s j ≡ a → ⊥) → getD (storedRows values s n) i 0 ≡ getD values i 0
   unfolding storeOf
   stored-other zero a i p h = refl
   stored-other (suc n) a i p h =
-      store-other (placeOf (addressOf s n)) (storedRows values s n) (valueOf s n) i (λ q. h n (omega arith) (same-place (addressOf s n) a q p))
+      store-other (placeOf (addressOf s n)) (storedRows values s n) (meantAt s n) i (λ q. h n (omega arith) (same-place (addressOf s n) a q p))
       ∙ stored-other n a i p (λ j l. h j (omega arith))
 
   module _ (m : 39 ≤ length values) (rising : (i j : ℕ) → i < j → j < countOf s → addressOf s i < addressOf s j) where
     -- a row of the sheet
-    pub stored-row : (n : ℕ) → n ≤ countOf s → (j i : ℕ) → j < n → placeOf (addressOf s j) ≡ At i → getD (storedRows values s n) i 0 ≡ valueOf s j
+    pub stored-row : (n : ℕ) → n ≤ countOf s → (j i : ℕ) → j < n → placeOf (addressOf s j) ≡ At i → getD (storedRows values s n) i 0 ≡ meantAt s j
     unfolding storeOf
     stored-row zero l j i h p = absurd (not-suc-le-zero h)
     stored-row (suc n) l j i h p =
         ⊎-elim
-        (λ e. store-same (placeOf (addressOf s n)) (storedRows values s n) (valueOf s n) (rw e at p) (let below = place-below (addressOf s j) p in omega (arith, stored-length n)) ∙ rw e)
+        (λ e. store-same (placeOf (addressOf s n)) (storedRows values s n) (meantAt s n) (rw e at p) (let below = place-below (addressOf s j) p in omega (arith, stored-length n)) ∙ rw e)
         (λ k. let up = rising j n k (omega arith) in
-        store-other (placeOf (addressOf s n)) (storedRows values s n) (valueOf s n) i (λ q. let e = same-place (addressOf s n) (addressOf s j) q p in omega arith)
+        store-other (placeOf (addressOf s n)) (storedRows values s n) (meantAt s n) i (λ q. let e = same-place (addressOf s n) (addressOf s j) q p in omega arith)
         ∙ stored-row n (omega arith) j i k p)
         (last j n h)
 
@@ -83,7 +83,7 @@ rows-right : (values s : List ℕ) → allRightOf values ≡ true → (n : ℕ) 
 unfolding storeOf fittingOf
 rows-right values s h zero f = h
 rows-right values s h (suc n) f =
-    store-right (addressOf s n) (valueOf s n) (storedRows values s n) (f n (omega arith)) (rows-right values s h n (λ i p. f i (omega arith))) (placeOf (addressOf s n)) refl
+    store-right (addressOf s n) (meantAt s n) (storedRows values s n) (f n (omega arith)) (rows-right values s h n (λ i p. f i (omega arith))) (placeOf (addressOf s n)) refl
 
 pub stored-right : (values s : List ℕ) → allRightOf values ≡ true → allFittingOf s ≡ true → allRightOf (storedRows values s (countOf s)) ≡ true
 stored-right values s h f = rows-right values s h (countOf s) (each-at (fittingOf s) (countOf s) f)

@@ -4,23 +4,24 @@ use Prim.Native.Nat.{ℕ, zero, suc, _+_, _*_, _≤_, _<_}
 use mathlib.Core.Path.{_≡_, refl, sym, _∙_}
 use mathlib.Core.Bool.{true}
 use mathlib.Core.Logic.{⊎-elim}
-use mathlib.Core.List.{List, [], _∷_, _++_, append-nil}
+use mathlib.Core.List.{List, [], _++_, append-nil}
 use native.Mathlib.Omega.{arith}
 use lib.Dec.{eqb, ltb, eqb→eq}
 use lib.ListN.{length, take, drop, getD, drop-of-length-le}
 use lib.Seq.{take-all}
 use borrow.Author.Tests.{ltb-true}
-use Rattle.rows.specs.Table.{address, rows, rowOf, placeOf}
-use Rattle.rows.specs.Ranges.{rangeOf, fitsIn, allRightOf}
+use Rattle.rows.specs.Table.{address, rows, rowOf}
+use Rattle.rows.specs.Ranges.{rangeOf, isRight, fitsIn, allRightOf}
 use Rattle.rows.proofs.Span.{in-span, is-true}
 use Rattle.rows.proofs.Laws.{row-place, all-right-at}
 use Rattle.sheet.specs.Format.{countOf, addressOf, bodyOf, valueOf, wellFormedOf}
 use Rattle.sheet.specs.Sheet.{Sheet}
-use Rattle.sheet.specs.Loading.{knownOf, fittingOf, allKnownOf, allFittingOf, storeOf, storedRows}
+use Rattle.sheet.specs.Loading.{meantAt, knownOf, fittingOf, allKnownOf, allFittingOf, storeOf, storedRows}
 use Rattle.sheet.specs.Spelled.{Rising, Words}
 use Rattle.sheet.specs.Writing.{all, sheetOf}
 use Rattle.sheet.proofs.Each.{last, each-all}
 use Rattle.sheet.proofs.Sheets.{sheet-holds}
+use Rattle.sheet.proofs.Meant.{right-meant}
 use Rattle.sheet.proofs.Spelled.{spelled-count, spelled-address, spelled-value, spelled-sheet}
 use Rattle.sheet.proofs.Bytes.{all-length, turn}
 
@@ -72,9 +73,17 @@ module _ (v : List ℕ) (n : length v ≡ 39) where
     unfolding knownOf
     known i h = rw (sheet-address i h, row-place i h)
 
+    right : (i : ℕ) → i < 39 → isRight (rangeOf (address (rowOf i)) (getD v i 0)) ≡ true
+    unfolding rangeOf fitsIn
+    right i h = rw (row-place i h) (all-right-at v i r h)
+
+    -- each row writes the value that stands in it
+    meant : (i : ℕ) → i < 39 → meantAt (sheetOf v) i ≡ getD v i 0
+    meant i h = rw (sheet-address i h, sheet-value i h (w i)) (right-meant (address (rowOf i)) (getD v i 0) (right i h))
+
     fitting : (i : ℕ) → i < 39 → fittingOf (sheetOf v) i ≡ true
-    unfolding fittingOf rangeOf fitsIn
-    fitting i h = rw (sheet-address i h, sheet-value i h (w i), row-place i h) (all-right-at v i r h)
+    unfolding fittingOf
+    fitting i h = rw (meant i h, sheet-address i h) (right i h)
 
     pub written-known : allKnownOf (sheetOf v) ≡ true
     written-known = rw sheet-count (each-all (knownOf (sheetOf v)) 39 known)
@@ -89,7 +98,7 @@ module _ (v : List ℕ) (n : length v ≡ 39) where
       stored zero h = refl
       stored (suc i) h =
           let p : i < 39 = omega arith in
-          rw (sheet-address i p, sheet-value i p (w i), row-place i p, stored i (omega arith)) (turn 0 i v old (omega arith) (omega arith))
+          rw (meant i p, sheet-address i p, row-place i p, stored i (omega arith)) (turn 0 i v old (omega arith) (omega arith))
 
       pub written-stored : storedRows old (sheetOf v) (countOf (sheetOf v)) ≡ v
       written-stored =

@@ -1,8 +1,10 @@
--- Whether a sheet may be loaded, and what loading does to the stored values (document 02, request (vii)): 11 goes before 12, and 12 before 13.
+-- Whether a sheet may be loaded, and what loading does to the stored values (document 02, request (vii); sheets of older heads: request (xii)): 11 goes
+-- before 12, and 12 before 13.
 -- Assumes nothing.
 use Prim.Native.Nat.{ℕ, zero, suc}
-use mathlib.Core.Bool.{Bool, cond}
+use mathlib.Core.Bool.{Bool, cond, _&&_}
 use mathlib.Core.List.{List}
+use lib.Dec.{eqb}
 use lib.ListN.{set}
 use Rattle.rows.specs.declared.table.Place.{Place}
 use Rattle.rows.specs.declared.table.Place.the-variants.{At, Nowhere}
@@ -15,12 +17,19 @@ use Rattle.sheet.specs.declared.load.Loaded.{Loaded}
 use Rattle.sheet.specs.Each.{each}
 use Rattle.sheet.specs.Format.{countOf, addressOf, valueOf, wellFormedOf}
 
--- row i: its address is among the 39; its value lies in the row of that address
+-- what a row of this address and value writes: 35h at 1, as the sheets of older heads may have it, is a write of 0; any other value is written as it stands
+unfoldable pub meantOf : ℕ → ℕ → ℕ
+meantOf address value = cond (eqb address 0x35 && eqb value 1) 0 value
+
+abbrev pub meantAt : List ℕ → ℕ → ℕ
+meantAt s i = meantOf (addressOf s i) (valueOf s i)
+
+-- row i: its address is among the 39; what it writes lies in the row of that address
 unfoldable pub knownOf : List ℕ → ℕ → Bool
 knownOf s i = isAt (placeOf (addressOf s i))
 
 unfoldable pub fittingOf : List ℕ → ℕ → Bool
-fittingOf s i = isRight (rangeOf (addressOf s i) (valueOf s i))
+fittingOf s i = isRight (rangeOf (addressOf s i) (meantAt s i))
 
 -- of all rows
 abbrev pub allKnownOf : List ℕ → Bool
@@ -47,7 +56,7 @@ storeOf values address word = storeAt (placeOf address) values word
 -- the values after a write of each of the first n rows, in row order
 abbrev pub storedRows : List ℕ → List ℕ → ℕ → List ℕ
 storedRows values s zero = values
-storedRows values s (suc n) = storeOf (storedRows values s n) (addressOf s n) (valueOf s n)
+storedRows values s (suc n) = storeOf (storedRows values s n) (addressOf s n) (meantAt s n)
 
 -- all or nothing
 abbrev pub loadedBy : Answer → List ℕ → List ℕ → List ℕ

@@ -8,7 +8,21 @@ use rows::table;
 use rows::table::Place;
 ghost use mathlib.Core.Path.{_≡_};
 ghost use Rattle.sheet.specs.Each.{each};
-ghost use Rattle.sheet.specs.Loading.{knownOf, fittingOf, checkOf, storedRows, loadOf};
+ghost use Rattle.sheet.specs.Loading.{meantAt, knownOf, fittingOf, checkOf, storedRows, loadOf};
+
+// 35h, which switched incremental measurement before that was retired.
+const INCREMENTAL: u8 = 0x35;
+
+// The value that row i writes: 35h at 1, as the sheets of older heads may have it, is a write of 0.
+fn meant(sheet: &[u8], i: u8) -> u32
+    ensures { λ r. ⌜ r ≡ meantAt (now (sheet .entry)) i ⌝ }
+{
+    let value = format::value_at(sheet, i);
+    if (format::address_at(sheet, i) == INCREMENTAL) & (value == 1) {
+        return 0;
+    }
+    value
+}
 
 // The address of row i is among the 39.
 fn known(sheet: &[u8], i: u8) -> bool
@@ -20,11 +34,11 @@ fn known(sheet: &[u8], i: u8) -> bool
     }
 }
 
-// The value of row i lies in the row of its address.
+// What row i writes lies in the row of its address.
 fn fitting(sheet: &[u8], i: u8) -> bool
     ensures { λ r. ⌜ r ≡ fittingOf (now (sheet .entry)) i ⌝ }
 {
-    match range::range_of(format::address_at(sheet, i), format::value_at(sheet, i)) {
+    match range::range_of(format::address_at(sheet, i), meant(sheet, i)) {
         Range::Right => true,
         Range::Low => false,
         Range::High => false,
@@ -82,7 +96,7 @@ fn store_rows(values: [u32; 39], sheet: &[u8], n: u8) -> [u32; 39]
     let mut i: u8 = 0;
     while i < n {
         let place = table::place_of(format::address_at(sheet, i));
-        let word = format::value_at(sheet, i);
+        let word = meant(sheet, i);
         i += 1;
         match place {
             Place::At(p) => {

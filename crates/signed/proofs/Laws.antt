@@ -12,7 +12,7 @@ use lib.Signed.{ltZ, mag}
 use Rattle.signed.specs.Number.{minus, numberOf, wordOf, withSign}
 use Rattle.signed.specs.Rounding.{divisorOf, nearestOf, roundedOf}
 use Rattle.signed.specs.Difference.{heldOf}
-use Rattle.signed.specs.Position.{absoluteOf, relativeOf}
+use Rattle.signed.specs.Position.{absoluteOf}
 use Rattle.signed.proofs.Sizes.{less-or-not, abs-neg, abs-add, abs-sub}
 use Rattle.signed.proofs.Rounds.{nearest-small}
 
@@ -96,10 +96,6 @@ held-high (pos n) t h = simp (lt-ltb 5242880 n h)
 held-high (negsuc n) t h = absurd (true≢false t)
 
 -- a position is within what is shown, where its parts are within theirs
-pub relative-small : (m start : ℤ) → natAbs m ≤ 2500000 → natAbs start ≤ 2500000 → natAbs (relativeOf m start) ≤ 5242880
-unfolding relativeOf
-relative-small m start hm hs = omega (arith, abs-sub m start)
-
 pub absolute-small : (m zero : ℤ) (adopted offset : ℕ) → natAbs m ≤ 2500000 → natAbs zero ≤ 2500000 → natAbs (numberOf adopted) ≤ 99999 → natAbs (numberOf offset) ≤ 19999 → natAbs (absoluteOf m zero adopted offset) ≤ 5242880
 unfolding absoluteOf
 absolute-small m z adopted offset hm hz ha ho =

@@ -7,7 +7,3 @@ use Rattle.signed.specs.Number.{numberOf}
 -- m - zero + adopted calibration value + 1Eh; the last two are words
 unfoldable pub absoluteOf : ℤ → ℤ → ℕ → ℕ → ℤ
 absoluteOf m zero adopted offset = m -ℤ zero +ℤ numberOf adopted +ℤ numberOf offset
-
--- with incremental on: m minus the m at switching on
-unfoldable pub relativeOf : ℤ → ℤ → ℤ
-relativeOf m start = m -ℤ start

@@ -5,7 +5,7 @@ ghost use lib.IntN.{natAbs, _-ℤ_};
 ghost use Rattle.signed.specs.Number.{minus, numberOf, wordOf, distanceOf};
 ghost use Rattle.signed.specs.Rounding.{divisorOf, nearestOf, roundedOf};
 ghost use Rattle.signed.specs.Difference.{heldOf, differentialOf};
-ghost use Rattle.signed.specs.Position.{absoluteOf, relativeOf};
+ghost use Rattle.signed.specs.Position.{absoluteOf};
 
 // The number that a word of 32 bits stands for.
 pub fn number(w: u32) -> i64
@@ -116,11 +116,4 @@ pub fn absolute(m: i32, zero: i32, adopted: u32, offset: u32) -> i64
     ensures { λ r. ⌜ r ≡ absoluteOf m zero adopted offset ⌝ }
 {
     m as i64 - zero as i64 + number(adopted) + number(offset)
-}
-
-// The position while incremental measurement is on: what was measured since it was switched on.
-pub fn relative(m: i32, start: i32) -> i64
-    ensures { λ r. ⌜ r ≡ relativeOf m start ⌝ }
-{
-    m as i64 - start as i64
 }

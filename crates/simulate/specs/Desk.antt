@@ -11,7 +11,7 @@ use Rattle.master.specs.declared.Answer.the-variants as answer
 use Rattle.master.specs.Master.{builtOf}
 use Rattle.line.specs.declared.calls.Line.{Line}
 use Rattle.line.specs.declared.calls.Called.{Called}
-use Rattle.line.specs.Calls.{emptyOf, growOf, tickOf, measureOf, keysOf, powerOf, loadOf}
+use Rattle.line.specs.Calls.{emptyOf, growOf, tickOf, measureOf, keysOf, powerOf, bringOf, loadOf}
 use Rattle.rack.specs.Rack.{rackOf}
 use Rattle.script.specs.declared.Command.{Command}
 use Rattle.script.specs.declared.Command.the-variants as command
@@ -82,6 +82,7 @@ didOf (command.Ask time command node parameter word value) text d = askedOf d ti
 didOf (command.Save at) text d = d
 didOf (command.Load at from count) text d = calledOf d (loadOf (d .line) at (broughtOf text from count))
 didOf (command.Rack time place from count) text d = rackedOf d time place (broughtOf text from count)
+didOf (command.Bring at) text d = calledOf d (bringOf (d .line) at)
 
 unfoldable pub obeyedOf : Desk → List ℕ → Desk
 obeyedOf d text = didOf (meaningOf text) text d

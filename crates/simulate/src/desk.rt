@@ -285,5 +285,6 @@ pub(crate) fn obey(d: Desk, text: &[u8], number: u64) -> Obeyed
             from,
             count,
         } => racked(d, text, time, place as usize, from, count),
+        Command::Bring(head) => done(d, calls::bring(d.line, head as usize)),
     }
 }

@@ -14,7 +14,7 @@ fn words() -> bool {
         b"  head NODE SERIAL     grow the line by a head; the first is head 0\n  send TIME HEX        feed these bytes (two hex digits each), all at TIME\n  tick TIME            let the heads look at the clock\n",
     );
     let heads = write(
-        b"  measure HEAD VALUE   a head's measurement; VALUE may have a minus sign\n  keys HEAD STATE      a head's keys: 1 left, 2 star, 4 up, or a sum of these\n  power HEAD           switch a head off and on\n  space SIZE           space lent for replies and sheets, 0 to 1024; 10 at first\n  xor HEAD             which bits of a head's last damaged telegram were hit\n",
+        b"  measure HEAD VALUE   a head's measurement; VALUE may have a minus sign\n  keys HEAD STATE      a head's keys: 1 left, 2 star, 4 up, or a sum of these\n  power HEAD           switch a head off and on\n  bring HEAD           bring an older head over: 35h becomes 0 and it shows its\n                       absolute position; any other head stays as it is\n  space SIZE           space lent for replies and sheets, 0 to 1024; 10 at first\n  xor HEAD             which bits of a head's last damaged telegram were hit\n",
     );
     let sheets = write(
         b"  save HEAD            a head's settings on a sheet, to be loaded into another\n  load HEAD [HEX]      load the sheet of these bytes; no HEX: a sheet of no byte\n",

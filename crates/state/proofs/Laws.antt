@@ -11,9 +11,9 @@ use lib.Dec.{leb, ltb, eqb}
 use lib.IntN.{ℤ, pos, negsuc, natAbs}
 use lib.ListN.{length, drop, set, length-set, length-append, length-drop}
 use lib.Seq.{length-take-le, take-all, take-suc, take-set-le, getD-set-same}
-use borrow.Author.Tests.{leb-true, le-leb, lt-ltb, le-ltb, ltb-true, ltb-false, eq-eqb, eqb-true, eqb-false}
+use borrow.Author.Tests.{leb-true, le-leb, lt-ltb, le-ltb, ltb-true, ltb-false, eq-eqb, eqb-true, eqb-false, not-true}
 use Rattle.signed.proofs.Sizes.{less-or-not}
-use Rattle.signed.proofs.Laws.{absolute-small, relative-small, rounded-small}
+use Rattle.signed.proofs.Laws.{absolute-small, rounded-small}
 use Rattle.rows.specs.declared.table.Place.the-variants.{At}
 use Rattle.rows.specs.Table.{rows, rowOf, placeOf}
 use Rattle.rows.specs.Ranges.{fitsIn, allRightOf}
@@ -26,11 +26,11 @@ use Rattle.state.specs.declared.parts.Measurement.{Measurement}
 use Rattle.state.specs.declared.parts.Ear.{Ear}
 use Rattle.state.specs.declared.status.Bearing.{Bearing}
 use Rattle.state.specs.Bits.{bit, bitSet}
-use Rattle.state.specs.Settings.{valueAt, nodePlace, baudPlace, timeoutPlace, responsePlace, calibrationKeyPlace, divisorPlace, interlockPlace, directionPlace, offsetPlace, calibrationPlace, window1Place, modePlace, window2Place, applicationPlace, differencePlace, incrementalKeyPlace, acknowledgementPlace}
+use Rattle.state.specs.Settings.{valueAt, nodePlace, baudPlace, timeoutPlace, responsePlace, calibrationKeyPlace, divisorPlace, interlockPlace, directionPlace, offsetPlace, calibrationPlace, window1Place, modePlace, window2Place, applicationPlace, differencePlace, incrementalPlace, acknowledgementPlace}
 use Rattle.state.specs.Mode.{displayOf}
 use Rattle.state.specs.Errors.{entries, entered, rememberedOf}
 use Rattle.state.specs.Position.{positionOf, actualOf, shownOf, positionBy, viewOf}
-use Rattle.state.specs.Status.{aimBitsOf, acknowledgedBitsOf, restBitsOf, aimedOf, pendingOf, positionStatus, displayStatus, statusOf, withinOf}
+use Rattle.state.specs.Status.{aimBitsOf, displayBitsOf, restBitsOf, aimedOf, pendingOf, positionStatus, displayStatus, statusOf, withinOf}
 use Rattle.state.specs.Wellformed.{inReachOf, offerFits, storedFits, faultsFit, keptFits, measurementFits, earFits, wellformedOf}
 use Rattle.state.proofs.Bits.{bit-most, bit-weighs, bit-five}
 
@@ -40,7 +40,7 @@ pub places :
     (0x00 ∷ 0x01 ∷ 0x02 ∷ 0x03 ∷ 0x05 ∷ 0x0B ∷ 0x0E ∷ 0x1B ∷ 0x1E ∷ 0x1F ∷ 0x20 ∷ 0x28 ∷ 0x31 ∷ 0x33 ∷ 0x34 ∷ 0x35 ∷ 0x3E ∷ [])
     ≡ map At
     (nodePlace ∷ baudPlace ∷ timeoutPlace ∷ responsePlace ∷ calibrationKeyPlace ∷ divisorPlace ∷ interlockPlace ∷ directionPlace
-    ∷ offsetPlace ∷ calibrationPlace ∷ window1Place ∷ modePlace ∷ window2Place ∷ applicationPlace ∷ differencePlace ∷ incrementalKeyPlace ∷ acknowledgementPlace ∷ [])
+    ∷ offsetPlace ∷ calibrationPlace ∷ window1Place ∷ modePlace ∷ window2Place ∷ applicationPlace ∷ differencePlace ∷ incrementalPlace ∷ acknowledgementPlace ∷ [])
 unfolding placeOf rows
 places = refl
 
@@ -62,7 +62,7 @@ module _ (h : Head) where
 
   abbrev high : ℕ
   high =
-      bit 0 (aims && bearing .above) + 2 * bit 0 (pendingOf h) + 4 * bit 0 (h .measurement .frozen) + 8 * bit 0 (h .measurement .incremental) + 16 * bit 0 aims
+      bit 0 (aims && bearing .above) + 2 * bit 0 (pendingOf h) + 4 * bit 0 (h .measurement .frozen) + 16 * bit 0 aims
       + 128 * (h .keys % 8)
 
   low-small : low < 2 ^ 5
@@ -84,7 +84,6 @@ module _ (h : Head) where
         bit-weighs 6 (aims && bearing .above),
         bit-weighs 7 (pendingOf h),
         bit-weighs 8 (h .measurement .frozen),
-        bit-weighs 9 (h .measurement .incremental),
         bit-weighs 10 aims,
       )
 
@@ -98,12 +97,11 @@ module _ (h : Head) where
         bit-most 0 (aims && bearing .above),
         bit-most 0 (pendingOf h),
         bit-most 0 (h .measurement .frozen),
-        bit-most 0 (h .measurement .incremental),
         bit-most 0 aims,
       )
 
   display-fits : displayStatus h < 65536
-  unfolding acknowledgedBitsOf restBitsOf
+  unfolding displayBitsOf restBitsOf
   display-fits =
       omega (
         arith,
@@ -223,6 +221,7 @@ unfolding faultsFit
 faults-holds f w = rw (le-leb _ _ (w .memory), le-leb _ _ (w .inputs), le-leb _ _ (w .damaged))
 
 pub record WellMeasured (g : Measurement) : Type 0 where
+  pub off : g .incremental ≡ false
   pub m : inReachOf (g .m) ≡ true
   pub zero : inReachOf (g .zero) ≡ true
   pub start : inReachOf (g .start) ≡ true
@@ -232,15 +231,16 @@ pub record WellMeasured (g : Measurement) : Type 0 where
 pub measurement-told : (g : Measurement) → measurementFits g ≡ true → WellMeasured g
 unfolding measurementFits keptFits
 measurement-told g h =
-    let b = both (inReachOf (g .m)) _ h in
+    let a = both (not (g .incremental)) _ h in
+    let b = both (inReachOf (g .m)) _ (a .1) in
     let d = both (inReachOf (g .zero)) _ (b .1) in
     let e = both (inReachOf (g .start)) _ (d .1) in
     let f = both (fitsIn (rowOf calibrationPlace) (g .adopted)) _ (e .1) in
-    record { m = b .0; zero = d .0; start = e .0; adopted = f .0; kept = leb-true _ _ (f .1) }
+    record { off = not-true _ (a .0); m = b .0; zero = d .0; start = e .0; adopted = f .0; kept = leb-true _ _ (f .1) }
 
 pub measurement-holds : (g : Measurement) → WellMeasured g → measurementFits g ≡ true
 unfolding measurementFits keptFits
-measurement-holds g w = rw (w .m, w .zero, w .start, w .adopted, le-leb _ _ (w .kept))
+measurement-holds g w = rw (w .off, w .m, w .zero, w .start, w .adopted, le-leb _ _ (w .kept))
 
 pub ear-told : (e : Ear) → earFits e ≡ true → e .count ≤ 9
 unfolding earFits
@@ -280,10 +280,8 @@ module _ (vs : List ℕ) (g : Measurement) (o : fitsIn (rowOf offsetPlace) (valu
   unfolding positionOf
   placed-small =
       let w = measurement-told g f in
-      either-small (g .incremental) _ _ 5242880
-      (relative-small (g .m) (g .start) (reach-small _ (w .m)) (reach-small _ (w .start)))
-      (absolute-small (g .m) (g .zero) (g .adopted) (valueAt vs offsetPlace) (reach-small _ (w .m)) (reach-small _ (w .zero))
-      (calibration-limits (g .adopted) (w .adopted)) (offset-limits (valueAt vs offsetPlace) o))
+      absolute-small (g .m) (g .zero) (g .adopted) (valueAt vs offsetPlace) (reach-small _ (w .m)) (reach-small _ (w .zero))
+      (calibration-limits (g .adopted) (w .adopted)) (offset-limits (valueAt vs offsetPlace) o)
 
   actual-small : natAbs (viewOf vs g .actual) ≤ 5242880
   unfolding viewOf actualOf

@@ -2,4 +2,5 @@ pub mod Lists
 pub mod Bits
 pub mod Signed
 pub mod Laws
+pub mod Brought
 pub mod Edges

@@ -1,4 +1,4 @@
--- The edges of refusal 20 (document 01, "The line, and calls refused"; document 02, request (ii)): for each of its clauses two heads that are as delivered but for one
+-- The edges of refusal 20 (document 01, "The line, and calls refused"; document 02, requests (ii) and (xii)): for each of its clauses two heads that are as delivered but for one
 -- thing, which in the first lies just at its limit and in the second just past it.
 -- Assumes nothing.
 use Prim.Native.Nat.{ℕ, suc}
@@ -27,9 +27,9 @@ list count = record { codes = replicate 10 0; count = count }
 abbrev faults : ℕ → ℕ → ℕ → Faults
 faults memory inputs damaged = record { memory = list memory; inputs = list inputs; pending = 0; hit = 0; damaged = damaged }
 
-abbrev measurement : ℤ → ℤ → ℤ → ℕ → ℤ → Measurement
-measurement m zero start adopted kept =
-    record { m = m; zero = zero; adopted = adopted; incremental = false; start = start; frozen = false; kept = kept }
+abbrev measurement : ℤ → ℤ → Bool → ℤ → ℕ → ℤ → Measurement
+measurement m zero incremental start adopted kept =
+    record { m = m; zero = zero; adopted = adopted; incremental = incremental; start = start; frozen = false; kept = kept }
 
 abbrev head : Stored → Faults → Measurement → ℕ → ℕ → Head
 head s f g gathered keys =
@@ -54,7 +54,7 @@ abbrev clear : Faults
 clear = faults 0 0 0
 
 abbrev still : Measurement
-still = measurement (pos 0) (pos 0) (pos 0) 0 (pos 0)
+still = measurement (pos 0) (pos 0) false (pos 0) 0 (pos 0)
 
 -- ---- a head as delivered but for one thing
 abbrev pub memory : ℕ → Head
@@ -84,20 +84,23 @@ abbrev pub offeredAt : ℕ → Head
 offeredAt n = head (stored values n 5) clear still 0 0
 
 abbrev pub measured : ℤ → Head
-measured m = head delivered clear (measurement m (pos 0) (pos 0) 0 (pos 0)) 0 0
+measured m = head delivered clear (measurement m (pos 0) false (pos 0) 0 (pos 0)) 0 0
 
 abbrev pub zeroed : ℤ → Head
-zeroed m = head delivered clear (measurement (pos 0) m (pos 0) 0 (pos 0)) 0 0
+zeroed m = head delivered clear (measurement (pos 0) m false (pos 0) 0 (pos 0)) 0 0
 
 abbrev pub started : ℤ → Head
-started m = head delivered clear (measurement (pos 0) (pos 0) m 0 (pos 0)) 0 0
+started m = head delivered clear (measurement (pos 0) (pos 0) false m 0 (pos 0)) 0 0
+
+abbrev pub switched : Bool → Head
+switched on = head delivered clear (measurement (pos 0) (pos 0) on (pos 0) 0 (pos 0)) 0 0
 
 -- the adopted value, by its number
 abbrev pub adopted : ℤ → Head
-adopted v = head delivered clear (measurement (pos 0) (pos 0) (pos 0) (wordOf v) (pos 0)) 0 0
+adopted v = head delivered clear (measurement (pos 0) (pos 0) false (pos 0) (wordOf v) (pos 0)) 0 0
 
 abbrev pub kept : ℤ → Head
-kept v = head delivered clear (measurement (pos 0) (pos 0) (pos 0) 0 v) 0 0
+kept v = head delivered clear (measurement (pos 0) (pos 0) false (pos 0) 0 v) 0 0
 
 abbrev pub keys : ℕ → Head
 keys k = head delivered clear still 0 k
@@ -140,6 +143,7 @@ edges =
     ∷ edge zeroed (pos 2500000) (pos 2500001)
     ∷ edge started (minus 2500000) (minus 2500001)
     ∷ edge started (pos 2500000) (pos 2500001)
+    ∷ edge switched false true
     ∷ edge adopted (minus 19999) (minus 20000)
     ∷ edge adopted (pos 99999) (pos 100000)
     ∷ edge kept (minus 5242880) (minus 5242881)

@@ -5,4 +5,5 @@ pub mod Errors
 pub mod Position
 pub mod Status
 pub mod Wellformed
+pub mod Older
 pub mod Edges

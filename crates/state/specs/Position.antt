@@ -6,14 +6,14 @@ use mathlib.Core.List.{List}
 use lib.Dec.{ltb, eqb}
 use lib.IntN.{ℤ}
 use Rattle.signed.specs.Rounding.{roundedOf}
-use Rattle.signed.specs.Position.{absoluteOf, relativeOf}
+use Rattle.signed.specs.Position.{absoluteOf}
 use Rattle.state.specs.declared.parts.Measurement.{Measurement}
 use Rattle.state.specs.declared.position.Readout.{Readout}
 use Rattle.state.specs.Settings.{valueAt, offsetPlace, divisorPlace, applicationPlace}
 
--- m - zero + adopted calibration value + 1Eh; with incremental on, m minus the m at switching on
+-- m - zero + adopted calibration value + 1Eh
 unfoldable pub positionOf : Measurement → ℕ → ℤ
-positionOf g offset = cond (g .incremental) (relativeOf (g .m) (g .start)) (absoluteOf (g .m) (g .zero) (g .adopted) offset)
+positionOf g offset = absoluteOf (g .m) (g .zero) (g .adopted) offset
 
 -- A: the position by 10 to the power 0Bh if 33h is 0 or 1, the position itself if 2
 unfoldable pub actualOf : ℤ → ℕ → ℕ → ℤ

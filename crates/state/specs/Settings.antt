@@ -62,9 +62,9 @@ applicationPlace = 27
 abbrev pub differencePlace : ℕ
 differencePlace = 28
 
--- 35h: the up key switches incremental measurement
-abbrev pub incrementalKeyPlace : ℕ
-incrementalKeyPlace = 29
+-- 35h: incremental measurement, which is retired; 0 but in older heads
+abbrev pub incrementalPlace : ℕ
+incrementalPlace = 29
 
 -- 3Eh: the keys that acknowledge a set point
 abbrev pub acknowledgementPlace : ℕ

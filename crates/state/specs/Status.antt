@@ -1,7 +1,8 @@
--- The status word and the differential value (document 01, "Position and status"; alpha-numeric display: document 02, request (ix)).
+-- The status word and the differential value (document 01, "Position and status"; alpha-numeric display: document 02, request (ix); bit 9 is
+-- that mode's alone: request (xii)).
 -- Assumes nothing.
 use Prim.Native.Nat.{ℕ, _+_, _*_, _%_, _^_}
-use mathlib.Core.Bool.{Bool, false, cond, not, _&&_}
+use mathlib.Core.Bool.{Bool, cond, not, _&&_}
 use mathlib.Core.List.{List}
 use lib.Dec.{leb, eqb}
 use lib.IntN.{ℤ}
@@ -40,20 +41,14 @@ aimBitsOf valid g =
     + bit 5 (valid && g .inside1)
     + bit 6 (valid && g .above)
 
--- in alpha-numeric display 3 and 5 are the acknowledgements of set points 1 and 2, and do not wait for bit 10; 0, 1 and 6 are 0
-unfoldable pub acknowledgedBitsOf : Targets → ℕ
-acknowledgedBitsOf t = bit 3 (t .acknowledged1) + bit 5 (t .acknowledged2)
+-- in alpha-numeric display 3 and 5 are the acknowledgements of set points 1 and 2, and do not wait for bit 10; 9 is bit 7 of the last taken control
+-- word: characters, and not numbers; 0, 1, 4 and 6 are 0
+unfoldable pub displayBitsOf : Targets → ℕ
+displayBitsOf t = bit 3 (t .acknowledged1) + bit 5 (t .acknowledged2) + bit 9 (bitSet (t .word) 7)
 
--- 2 set point 1 valid, 7 error pending, 8 frozen, 10 set point 2 valid, 13 to 15 keys; 4, static, and 9 as told
-unfoldable pub restBitsOf : Targets → Bool → Bool → Bool → Bool → ℕ → ℕ
-restBitsOf t reached pending frozen ninth keys =
-    bit 2 (t .valid1)
-    + bit 4 reached
-    + bit 7 pending
-    + bit 8 frozen
-    + bit 9 ninth
-    + bit 10 (t .valid2)
-    + keys % 8 * 2 ^ 13
+-- in every mode: 2 set point 1 valid, 7 error pending, 8 frozen, 10 set point 2 valid, 13 to 15 keys
+unfoldable pub restBitsOf : Targets → Bool → Bool → ℕ → ℕ
+restBitsOf t pending frozen keys = bit 2 (t .valid1) + bit 7 pending + bit 8 frozen + bit 10 (t .valid2) + keys % 8 * 2 ^ 13
 
 -- S: set point 2, valid or not, read as signed; how A lies to it
 unfoldable pub aimedOf : List ℕ → Measurement → Targets → Bearing
@@ -63,16 +58,15 @@ aimedOf vs g t = aimOf vs (viewOf vs g .actual) (numberOf (t .second))
 abbrev pub pendingOf : Head → Bool
 pendingOf h = not (eqb (h .faults .pending) 0)
 
--- bit 9 is incremental; the static bit is shown
+-- 4 static; 9 is 0
 abbrev pub positionStatus : Head → ℕ
 positionStatus h =
     aimBitsOf (h .targets .valid2) (aimedOf (h .stored .values) (h .measurement) (h .targets))
-    + restBitsOf (h .targets) (h .targets .reached) (pendingOf h) (h .measurement .frozen) (h .measurement .incremental) (h .keys)
+    + bit 4 (h .targets .reached)
+    + restBitsOf (h .targets) (pendingOf h) (h .measurement .frozen) (h .keys)
 
--- in alpha-numeric display bit 9 is bit 7 of the last taken control word: characters, and not numbers; the static bit is not shown
 abbrev pub displayStatus : Head → ℕ
-displayStatus h =
-    acknowledgedBitsOf (h .targets) + restBitsOf (h .targets) false (pendingOf h) (h .measurement .frozen) (bitSet (h .targets .word) 7) (h .keys)
+displayStatus h = displayBitsOf (h .targets) + restBitsOf (h .targets) (pendingOf h) (h .measurement .frozen) (h .keys)
 
 unfoldable pub statusOf : Head → ℕ
 statusOf h = cond (displayOf (h .stored .values)) (displayStatus h) (positionStatus h)

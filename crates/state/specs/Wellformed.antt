@@ -1,7 +1,7 @@
 -- The states that a head can be in (document 01, "The line, and calls refused": what refusal 20 looks at in a head).
 -- Assumes nothing.
 use Prim.Native.Nat.{ℕ}
-use mathlib.Core.Bool.{Bool, _&&_, _||_}
+use mathlib.Core.Bool.{Bool, not, _&&_, _||_}
 use lib.Dec.{leb, eqb}
 use lib.IntN.{ℤ, pos, natAbs}
 use lib.Signed.{leZ}
@@ -35,14 +35,15 @@ faultsFit f = leb (f .memory .count) 10 && (leb (f .inputs .count) 10 && leb (f 
 unfoldable pub keptFits : ℤ → Bool
 keptFits v = leb (natAbs v) 5242880
 
--- m, zero and the incremental start in the measurement range, the adopted value in 1Fh's row
+-- m, zero and the incremental start in the measurement range, the adopted value in 1Fh's row, incremental off (document 02, request (xii))
 unfoldable pub measurementFits : Measurement → Bool
 measurementFits g =
-    inReachOf (g .m)
+    not (g .incremental)
+    && (inReachOf (g .m)
     && (inReachOf (g .zero)
     && (inReachOf (g .start)
     && (fitsIn (rowOf calibrationPlace) (g .adopted)
-    && keptFits (g .kept))))
+    && keptFits (g .kept)))))
 
 -- at most nine bytes gathered
 unfoldable pub earFits : Ear → Bool

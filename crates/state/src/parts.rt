@@ -28,7 +28,8 @@ pub struct Faults {
     pub damaged: u32,
 }
 
-// `start` is the m at switching incremental on, `kept` what FEh showed at freezing: 0 while it is off.
+// `kept` is what FEh showed at freezing, 0 while it is off. Incremental measurement is retired: an older head may still have it on, `start` being the m
+// at switching it on, and is handed in with both.
 #[repr(C)]
 pub struct Measurement {
     pub m: i32,
@@ -114,7 +115,7 @@ impl Setting {
 
     pub const DIFFERENCE: usize = 28;
 
-    pub const INCREMENTAL_KEY: usize = 29;
+    pub const INCREMENTAL: usize = 29;
 
     pub const ACKNOWLEDGEMENT: usize = 35;
 }

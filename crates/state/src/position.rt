@@ -14,9 +14,6 @@ pub struct Readout {
 pub fn position(m: Measurement, offset: u32) -> i64
     ensures { λ r. ⌜ r ≡ positionOf m offset ⌝ }
 {
-    if m.incremental {
-        return signed::relative(m.m, m.start);
-    }
     signed::absolute(m.m, m.zero, m.adopted, offset)
 }
 

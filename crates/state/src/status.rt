@@ -9,7 +9,7 @@ ghost use mathlib.Core.Path.{_≡_};
 ghost use mathlib.Core.Bool.{Bool};
 ghost use Prim.Native.Nat.{_^_, _≤_, _<_};
 ghost use Rattle.state.specs.Bits.{bit, bitSet};
-ghost use Rattle.state.specs.Status.{clockwiseOf, aimOf, aimBitsOf, acknowledgedBitsOf, restBitsOf, aimedOf, statusOf, withinOf, differenceOf};
+ghost use Rattle.state.specs.Status.{clockwiseOf, aimOf, aimBitsOf, displayBitsOf, restBitsOf, aimedOf, statusOf, withinOf, differenceOf};
 
 // How A lies to set point 2: inside target window 1 (20h), inside window 2 (31h), above it, and the way to go.
 #[repr(C)]
@@ -59,26 +59,15 @@ fn aim_bits(valid: bool, m: Bearing) -> u16
     b0 + b1 + b3 + b5 + b6
 }
 
-// Bits 3 and 5 in alpha-numeric display.
-fn acknowledged_bits(t: Targets) -> u16
-    ensures { λ r. ⌜ (r ≡ acknowledgedBitsOf t) × (r ≤ 40) ⌝ }
-{
-    let b3 = bit(3, t.acknowledged1);
-    let b5 = bit(5, t.acknowledged2);
-    b3 + b5
-}
-
-// The other bits of the low byte and of the high byte.
-fn rest_bits(t: Targets, reached: bool, pending: bool, frozen: bool, ninth: bool, keys: u32) -> u16
-    ensures { λ r. ⌜ (r ≡ restBitsOf t reached pending frozen ninth keys) × (r ≤ 59284) ⌝ }
+// The bits that are the same in every mode.
+fn rest_bits(t: Targets, pending: bool, frozen: bool, keys: u32) -> u16
+    ensures { λ r. ⌜ (r ≡ restBitsOf t pending frozen keys) × (r ≤ 58756) ⌝ }
 {
     let b2 = bit(2, t.valid1);
-    let b4 = bit(4, reached);
     let b7 = bit(7, pending);
     let b8 = bit(8, frozen);
-    let b9 = bit(9, ninth);
     let b10 = bit(10, t.valid2);
-    b2 + b4 + b7 + b8 + b9 + b10 + (keys % 8) as u16 * (1 << 13)
+    b2 + b7 + b8 + b10 + (keys % 8) as u16 * (1 << 13)
 }
 
 // Whether a taken control word says that the set points are characters, and not numbers: its bit 7.
@@ -86,6 +75,16 @@ fn characters(word: u16) -> bool
     ensures { λ r. ⌜ r ≡ bitSet word 7 ⌝ }
 {
     word / 128 % 2 == 1
+}
+
+// Bits 3, 5 and 9 in alpha-numeric display.
+fn display_bits(t: Targets) -> u16
+    ensures { λ r. ⌜ (r ≡ displayBitsOf t) × (r ≤ 552) ⌝ }
+{
+    let b3 = bit(3, t.acknowledged1);
+    let b5 = bit(5, t.acknowledged2);
+    let b9 = bit(9, characters(t.word));
+    b3 + b5 + b9
 }
 
 // How A lies to S, set point 2, valid or not.
@@ -104,13 +103,12 @@ pub fn status(h: Head) -> u16
     let v = s.values;
     let m = h.measurement;
     let t = h.targets;
-    let pending = f.pending != 0;
+    let rest = rest_bits(t, f.pending != 0, m.frozen, h.keys);
     if mode::is_display(v[Setting::MODE]) {
-        let x = acknowledged_bits(t);
-        return x + rest_bits(t, false, pending, m.frozen, characters(t.word), h.keys);
+        return display_bits(t) + rest;
     }
     let x = aim_bits(t.valid2, aimed(v, m, t));
-    x + rest_bits(t, t.reached, pending, m.frozen, m.incremental, h.keys)
+    x + bit(4, t.reached) + rest
 }
 
 // What sets the static bit: set point 2 is valid and A within window 1, and never in alpha-numeric display.

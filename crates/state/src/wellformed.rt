@@ -47,7 +47,8 @@ fn measurement(m: Measurement) -> bool
     ensures { λ r. ⌜ r ≡ measurementFits m ⌝ }
 {
     let adopted = rows::range::fits_at(19, m.adopted);
-    in_reach(m.m) & (in_reach(m.zero) & (in_reach(m.start) & (adopted & kept(m.kept))))
+    !m.incremental
+        & (in_reach(m.m) & (in_reach(m.zero) & (in_reach(m.start) & (adopted & kept(m.kept)))))
 }
 
 fn ear(e: Ear) -> bool

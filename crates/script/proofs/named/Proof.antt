@@ -17,16 +17,17 @@ use Rattle.script.proofs.named.Tie as tie
 abbrev Is : List ℕ → Name → Name → Name → Type 0
 Is w n before found = found ≡ cond (sameOf w (text (rowOf n .word))) n before
 
-all-names : (w : List ℕ) {a b c d e f g h i j k l : Name} → Is w name.Head name.Other a → Is w name.Send a b → Is w name.Tick b c
+all-names : (w : List ℕ) {a b c d e f g h i j k l m : Name} → Is w name.Head name.Other a → Is w name.Send a b → Is w name.Tick b c
     → Is w name.Measure c d → Is w name.Keys d e → Is w name.Power e f → Is w name.Space f g → Is w name.Xor g h → Is w name.Ask h i
-    → Is w name.Save i j → Is w name.Load j k → Is w name.Rack k l → l ≡ nameOf w
+    → Is w name.Save i j → Is w name.Load j k → Is w name.Rack k l → Is w name.Bring l m → m ≡ nameOf w
 unfolding nameOf
-all-names w head send tick measure keys power space xor ask save load rack =
-    rw (rack, load, save, ask, xor, space, power, keys, measure, tick, send, head)
+all-names w head send tick measure keys power space xor ask save load rack bring =
+    rw (bring, rack, load, save, ask, xor, space, power, keys, measure, tick, send, head)
 
 returns : tie.Need-returns
 returns c =
-    let load = c .before .before in
+    let rack = c .before .before in
+    let load = rack .before .before in
     let save = load .before .before in
     let ask = save .before .before in
     let xor = ask .before .before in
@@ -49,12 +50,15 @@ returns c =
     (ask .called9 .ensures)
     (save .called10 .ensures)
     (load .called11 .ensures)
-    (c .called12 .ensures)
+    (rack .called12 .ensures)
+    (c .called13 .ensures)
 
 pub named-spec : {M : Type 1} → statement M
 named-spec =
     tie.close
     (tie.spec
+    (λ c. search needs)
+    (λ c κs. search needs)
     (λ c. search needs)
     (λ c κs. search needs)
     (λ c. search needs)

@@ -5,6 +5,7 @@ mod ask;
 mod auto_id;
 mod display;
 mod rack;
+mod retired;
 mod serial;
 mod sheet;
 mod status_word;
@@ -42,6 +43,9 @@ const SERIAL_STEPS: [u32; 5] = [4, 1, 2, 5, 1];
 /// Of a hundred of those that are left, likewise.
 const RACK_STEPS: [u32; 5] = [10, 14, 9, 12, 11];
 
+/// Of a hundred of those that are left, likewise.
+const RETIRED_STEPS: [u32; 4] = [7, 12, 5, 9];
+
 /// Unknown words, missing and extra words, numbers that do not fit, hex digits that are none.
 const LINES_THAT_ARE_NONE: &str =
     "heads 1 2|HEAD 1 2|Send 0 00|head|head 1|head 31|head 1 2 3|head -1 2|head +1 2|\
@@ -56,7 +60,9 @@ const LINES_THAT_ARE_NONE: &str =
     xor -1|xor -0|xor +0|xor x|xor 1F|xor 0x0|xor 0#|xor 4294967296|xor 18446744073709551616|XOR 0|xors 0|\
     xor0|save|save 0 0|save 0 00|save -0|save +0|save x|save 0x0|save 0#|save 4294967296|SAVE 0|saved 0|\
     load|load 0 0|load 0 000|load 0 0G|load 0 00 00|load 0 0x00|load 0 #|load -0 00|load +0|load 4294967296|\
-    load 4294967296 00|LOAD 0 00|loads 0 00|load0 00|space 1025|space 1025|space 4294967296|space 65536|\
+    load 4294967296 00|LOAD 0 00|loads 0 00|load0 00|\
+    bring|bring 0 0|bring 0 00|bring -0|bring +0|bring x|bring 0x0|bring 0#|bring 4294967296|BRING 0|brings 0|bring0|\
+    space 1025|space 1025|space 4294967296|space 65536|\
     space -1|space|space 10 10";
 
 pub struct Generator {
@@ -70,6 +76,7 @@ pub struct Generator {
     sheet_steps: u32,
     serial_steps: u32,
     rack_steps: u32,
+    retired_steps: u32,
     /// The sheets that were written so far.
     saved: Vec<Vec<u8>>,
     lines: Vec<Vec<u8>>,
@@ -92,6 +99,7 @@ pub fn script(seed: u64, number: u64) -> Text {
         sheet_steps: SHEET_STEPS[(number % 4) as usize],
         serial_steps: SERIAL_STEPS[(number % 5) as usize],
         rack_steps: RACK_STEPS[(number % 5) as usize],
+        retired_steps: RETIRED_STEPS[(number % 4) as usize],
         saved: Vec::new(),
         lines: Vec::new(),
     };
@@ -119,6 +127,9 @@ impl Generator {
         }
         if self.random.chance(30) {
             self.rack_before_any_head();
+        }
+        if self.random.chance(20) {
+            self.bring_no_head();
         }
         let as_delivered = self.random.chance(20).then_some(u32::from(FACTORY_NODE));
         let count = self.head_count();
@@ -153,6 +164,9 @@ impl Generator {
         }
         if self.random.chance(self.rack_steps) {
             return self.rack();
+        }
+        if self.random.chance(self.retired_steps) {
+            return self.retired();
         }
         match self.random.below(100) {
             0..=33 => self.send_telegrams(),
@@ -312,7 +326,7 @@ impl Generator {
     }
 
     fn call_in_between(&mut self) {
-        match self.random.below(12) {
+        match self.random.below(13) {
             0 => self.power(),
             1 => self.grow(),
             2 => self.measure(),
@@ -321,6 +335,7 @@ impl Generator {
             5 => self.xor(),
             6 => self.load_somewhere(),
             7 => self.rack_of_any_sort(),
+            8 => self.bring_somewhere(),
             _ => {}
         }
     }
@@ -437,7 +452,7 @@ impl Generator {
         self.write_line(format!("keys {number} {state}"));
     }
 
-    fn switch_incremental(&mut self, number: usize) {
+    fn stroke_up(&mut self, number: usize) {
         self.keys_of(number, &[0]);
         self.keys_of(number, &[4]);
         self.keys_of(number, &[0]);
@@ -524,6 +539,7 @@ impl Generator {
             3 => self.ask_one(),
             4 => self.sheet_in_short_space(),
             5 => self.rack_in_short_space(),
+            6 if self.random.chance(50) => self.bring_somewhere(),
             _ => self.write_line("space 10".to_string()),
         }
     }
@@ -547,13 +563,14 @@ impl Generator {
         let state = self.random.pick(&[8, 9, 255, 256, u32::MAX]);
         let node = self.node_that_is_none();
         let serial = self.free_serial();
-        let line = match self.random.below(10) {
+        let line = match self.random.below(11) {
             0 => format!("head {node} {serial}"),
             1..=2 => format!("measure {head} {far}"),
             3 => format!("measure {head} 7"),
             4..=5 => format!("keys {head} {state}"),
             6 => format!("keys {head} 1"),
             7 => format!("power {head}"),
+            8 => format!("bring {head}"),
             _ => format!("xor {head}"),
         };
         self.write_line(line);
@@ -566,7 +583,7 @@ impl Generator {
             0 => self.line_of_length(),
             1 => format!("tick {} #", self.now),
             2 => "measure 0 -0".to_string(),
-            3 => self.random.pick(&["power\u{b}0", "xor\u{b}0"]).to_string(),
+            3 => self.random.pick(&["power\u{b}0", "xor\u{b}0", "bring\u{b}0"]).to_string(),
             _ => {
                 let lines: Vec<&str> = LINES_THAT_ARE_NONE.split('|').collect();
                 self.random.pick(&lines).to_string()
@@ -596,7 +613,7 @@ impl Generator {
     }
 
     fn odd_bytes(&mut self) {
-        let mut line = match self.random.below(8) {
+        let mut line = match self.random.below(9) {
             0 => Vec::new(),
             1 => format!("head 1 {}", self.random.below(100)).into_bytes(),
             2 => b"xor 0".to_vec(),
@@ -604,6 +621,7 @@ impl Generator {
             4 => b"load 0 00".to_vec(),
             5 => format!("ask {} 0 31 32 0 0", self.now).into_bytes(),
             6 => format!("rack {} 0 00", self.now).into_bytes(),
+            7 => b"bring 0".to_vec(),
             _ => format!("send {} 00", self.now).into_bytes(),
         };
         for _ in 0..self.random.below(6) {

@@ -1,8 +1,8 @@
 //! Writes sheets: such as a head loads, and such as it refuses, each for a reason of its own.
 
 use crate::random::Random;
-use reference::rows::{self, check_value, limits, place, Row, ROWS};
-use reference::sheet::{written, Setting};
+use reference::rows::{self, limits, place, Row, ROWS};
+use reference::sheet::{loadable, written, Setting};
 
 /// Parameters that are not stored, and addresses that are none.
 const NOT_STORED: [u8; 20] = [
@@ -11,8 +11,8 @@ const NOT_STORED: [u8; 20] = [
 ];
 
 /// Values beside a row of which there is something to be mistaken in: a lowest that is not 0, a sign, one that is
-/// not listed.
-const BESIDE_THEIR_ROWS: [(u8, i32); 11] = [
+/// not listed, one beside what sheets from before may have.
+const BESIDE_THEIR_ROWS: [(u8, i32); 13] = [
     (rows::NODE_ADDRESS, 0),
     (rows::NODE_ADDRESS, 0),
     (rows::NODE_ADDRESS, 128),
@@ -21,6 +21,8 @@ const BESIDE_THEIR_ROWS: [(u8, i32); 11] = [
     (rows::OFFSET_VALUE, -20_000),
     (rows::CALIBRATION_VALUE, 100_000),
     (rows::OPERATING_MODE, 4),
+    (rows::INCREMENTAL_KEY_ENABLE, 2),
+    (rows::INCREMENTAL_KEY_ENABLE, 2),
     (rows::ACKNOWLEDGEMENT_SETTINGS, 1),
     (rows::ACKNOWLEDGEMENT_SETTINGS, 1),
     (rows::ACKNOWLEDGEMENT_SETTINGS, 3),
@@ -64,6 +66,8 @@ fn setting(random: &mut Random, row: &Row) -> Setting {
     let (low, high) = (i64::from(row.low), i64::from(row.high));
     let value = match (row.address, random.below(8)) {
         (rows::ACKNOWLEDGEMENT_SETTINGS, _) => random.pick(&[0, 2]),
+        // Loaded as 0, as on a sheet from before.
+        (rows::INCREMENTAL_KEY_ENABLE, _) => random.pick(&[0, 1]),
         // In mode 3 nothing is to be seen of windows.
         (rows::OPERATING_MODE, _) if random.chance(80) => random.between(0, 2),
         // A locked head refuses much of what follows.
@@ -175,7 +179,7 @@ fn bad_value(random: &mut Random, address: u8) -> u32 {
             6 => fitting.swap_bytes(),
             _ => random.word(),
         };
-        if check_value(address, value).is_err() {
+        if loadable(&written(&[Setting { address, value }])).is_err() {
             return value;
         }
     }
@@ -379,7 +383,6 @@ fn share_a_body(random: &mut Random, draft: &mut Draft) {
 mod tests {
     use super::*;
     use reference::line::Refusal;
-    use reference::sheet::loadable;
 
     #[test]
     fn right_sheets_can_be_loaded() {

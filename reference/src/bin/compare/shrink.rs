@@ -104,6 +104,7 @@ fn renumber(line: &mut Vec<u8>, gone: u32) {
         Command::Xor { head } if head > gone => format!("xor {}", head - 1),
         Command::Save { head } if head > gone => format!("save {}", head - 1),
         Command::Load { head, sheet } if head > gone => load_line(head - 1, &sheet),
+        Command::Bring { head } if head > gone => format!("bring {}", head - 1),
         _ => return,
     };
     *line = renumbered.into_bytes();
@@ -362,6 +363,8 @@ mod tests {
             ("save 2", "save 1"),
             ("load 2", "load 1"),
             ("load 2 00", "load 1 00"),
+            ("bring 2", "bring 1"),
+            ("bring 1", "bring 1"),
             ("xor 1", "xor 1"),
             ("xor 0", "xor 0"),
         ] {

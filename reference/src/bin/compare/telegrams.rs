@@ -6,9 +6,9 @@ use reference::rows::{self, ROWS};
 use reference::telegram::{Telegram, BROADCAST, READ, TELEGRAM_LENGTH, WRITE};
 
 /// The stored parameters that do more than being read back, the busier ones more than once.
-const EFFECTIVE_ROWS: [u8; 33] = [
+const EFFECTIVE_ROWS: [u8; 32] = [
     0x00, 0x01, 0x02, 0x02, 0x02, 0x03, 0x03, 0x03, 0x05, 0x05, 0x0B, 0x0B, 0x0B, 0x0B, 0x0E, 0x0E, 0x0E,
-    0x1B, 0x1B, 0x1E, 0x1F, 0x1F, 0x20, 0x20, 0x28, 0x31, 0x31, 0x33, 0x33, 0x33, 0x34, 0x35, 0x3E,
+    0x1B, 0x1B, 0x1E, 0x1F, 0x1F, 0x20, 0x20, 0x28, 0x31, 0x31, 0x33, 0x33, 0x33, 0x34, 0x3E,
 ];
 const FUNCTIONAL_VALUES: [u8; 6] = [
     rows::STATUS_WORD,
@@ -65,6 +65,8 @@ impl Author<'_> {
             (rows::OFFSET_VALUE, -20_000),
             (rows::CALIBRATION_VALUE, 100_000),
             (rows::OPERATING_MODE, 4),
+            (rows::INCREMENTAL_KEY_ENABLE, 1),
+            (rows::INCREMENTAL_KEY_ENABLE, 1),
             (rows::ACKNOWLEDGEMENT_SETTINGS, 1),
             (rows::ACKNOWLEDGEMENT_SETTINGS, 1),
             (rows::ACKNOWLEDGEMENT_SETTINGS, 1),

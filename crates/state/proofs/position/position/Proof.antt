@@ -1,4 +1,4 @@
--- `state::position::position` meets its contract: its test is the definition's, and what it passes on arrives as it was.
+-- `state::position::position` meets its contract: what it passes on arrives as it was.
 -- Assumes nothing.
 use mathlib.Core.Path.{_∙_}
 use Rattle.signed.proofs.Signed.{back}
@@ -14,8 +14,5 @@ position-spec =
     tie.close
     (tie.spec
     (λ c κs. search needs)
-    (λ c. let k = c .before .before .before in let g = k .before .args .m in let f = c .before .struct-told2 .given in
-    back _ (c .relative .ok) ∙ c .relative .ensures ∙ simp (k .if1 .taken, back32 (g .m) (f .0 .1), back32 (g .start) (f .1 .1 .1 .1 .0 .1)))
-    (λ c κs. search needs)
-    (λ c. let k = c .before .before .before in let g = k .before .args .m in let f = c .before .struct-told4 .given in
-    back _ (c .absolute .ok) ∙ c .absolute .ensures ∙ simp (k .if1 .left, back32 (g .m) (f .0 .1), back32 (g .zero) (f .1 .0 .1))))
+    (λ c. let g = c .before .before .before .args .m in let f = c .before .struct-told2 .given in
+    back _ (c .absolute .ok) ∙ c .absolute .ensures ∙ simp (back32 (g .m) (f .0 .1), back32 (g .zero) (f .1 .0 .1))))

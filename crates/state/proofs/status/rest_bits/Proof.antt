@@ -15,15 +15,11 @@ rest-bits-spec =
     (λ c κs. search needs)
     (λ c κs. search needs)
     (λ c κs. search needs)
-    (λ c κs. search needs)
-    (λ c κs. search needs)
     (λ c. search needs)
     (λ c. search needs)
     (λ c. search needs)
     (λ c. search needs)
     (λ c. search needs)
     (λ c. search needs)
-    (λ c. search needs)
-    (λ c. search needs)
-    (λ c. let k5 = c .before in let k4 = k5 .before in let k3 = k4 .before in let k2 = k3 .before in let k = k2 .before in
-    (rw (c .bit6 .ensures .0, k5 .bit5 .ensures .0, k4 .bit4 .ensures .0, k3 .bit3 .ensures .0, k2 .bit2 .ensures .0, k .bit .ensures .0), omega arith)))
+    (λ c. let k3 = c .before in let k2 = k3 .before in let k = k2 .before in
+    (rw (c .bit4 .ensures .0, k3 .bit3 .ensures .0, k2 .bit2 .ensures .0, k .bit .ensures .0), omega arith)))

@@ -10,17 +10,17 @@ unfolding statusOf
 status-spec =
     tie.close
     (tie.spec
-    (λ c. search needs)
-    (λ c κs. search needs)
-    (λ c κs. search needs)
-    (λ c κs. search needs)
     (λ c κs. search needs)
     (λ c. search needs)
-    (λ c. let k = c .before in let i = k .before .before in
-    rw (← i .before .is-display .ensures, i .if1 .taken, c .rest-bits .ensures .0, k .characters .ensures, k .before .acknowledged-bits .ensures .0))
+    (λ c κs. search needs)
+    (λ c κs. search needs)
+    (λ c. search needs)
+    (λ c. let k = c .before .before in
+    rw (← k .is-display .ensures, c .before .if1 .taken, c .display-bits .ensures .0, k .before .rest-bits .ensures .0))
     (λ c κs. search needs)
     (λ c κs. search needs)
     (λ c κs. search needs)
+    (λ c. search needs)
     (λ c. search needs)
     (λ c. let k = c .before .before in let i = k .before .before in
-    rw (← i .is-display .ensures, k .before .if1 .left, c .rest-bits2 .ensures .0, c .before .aim-bits .ensures .0, k .aimed .ensures)))
+    rw (← i .is-display .ensures, k .before .if1 .left, c .bit .ensures .0, c .before .aim-bits .ensures .0, k .aimed .ensures, i .before .rest-bits .ensures .0)))

@@ -185,7 +185,7 @@ impl Generator {
 
     /// Sends the first bytes of a telegram, mostly such that with the question's first bytes they are a sound one.
     fn begin(&mut self, telegram: &Telegram, question: &mut Question) {
-        let length = self.random.pick(&[1, 2, 2, 3, 3, 4, 4, 5, 6, 7, 8, 9, 9]);
+        let length = self.random.pick(&[1, 1, 2, 2, 3, 3, 4, 4, 5, 6, 7, 8, 9, 9]);
         let mut begun = telegram.bytes()[..length].to_vec();
         if self.random.chance(60) {
             join(&mut begun, question);
@@ -512,7 +512,7 @@ mod tests {
         assert_frequent("errors", 80, early(|finding| matches!(finding, Finding::Error(_))), &asked);
         for place in 1..=9 {
             // With one or two bytes gathered, what answers depends on the question's command.
-            let least = if place < 8 { 100 } else { 5 };
+            let least = if place < 8 { 100 } else { 4 };
             let is_drawn = |asked: &Asked| asked.drawn.iter().any(|(other, _)| *other == place);
             assert_frequent(&format!("at byte {place}"), least, is_drawn, &asked);
         }

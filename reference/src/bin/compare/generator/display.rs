@@ -76,7 +76,7 @@ impl Generator {
         });
     }
 
-    fn enter(&mut self, number: usize) {
+    pub(super) fn enter(&mut self, number: usize) {
         if self.random.chance(15) {
             self.refuse_a_mode(number, &DISPLAY);
         }

@@ -37,7 +37,7 @@ impl Generator {
     /// How many heads a script begins with; few most of the time.
     pub(super) fn head_count(&mut self) -> usize {
         match self.random.chance(10) {
-            true => self.random.pick(&[9, 12, 20, 31, MOST_HEADS, MOST_HEADS]),
+            true => self.random.pick(&[9, 12, 31, MOST_HEADS, MOST_HEADS, MOST_HEADS]),
             false => self.random.pick(&[1, 1, 1, 2, 2, 2, 3, 3, 4, FEW_HEADS]),
         }
     }
@@ -293,11 +293,11 @@ impl Generator {
     }
 
     pub(super) fn grow_beyond_the_last(&mut self) {
-        for _ in 0..self.random.pick(&[1, 2, 2]) {
-            match self.random.below(6) {
+        for _ in 0..self.random.pick(&[2, 2, 3]) {
+            match self.random.below(8) {
                 0..=1 => self.repeat_a_serial(),
-                2 => self.repeat_a_serial_at_no_node(),
-                3 => {
+                2..=3 => self.repeat_a_serial_at_no_node(),
+                4..=5 => {
                     let node = self.node_that_is_none();
                     self.grow_at(node);
                 }

@@ -9,7 +9,7 @@ use reference::script::hex;
 use reference::sheet::{written, Setting, WRITTEN_LENGTH};
 
 /// What moves the position, the windows or the status word of a head near its set point.
-const NEAR_THE_SET_POINT: [u8; 8] = [
+const NEAR_THE_SET_POINT: [u8; 7] = [
     rows::DISPLAY_DIVISOR,
     rows::COUNTING_DIRECTION,
     rows::OFFSET_VALUE,
@@ -17,7 +17,6 @@ const NEAR_THE_SET_POINT: [u8; 8] = [
     rows::TARGET_WINDOW_1,
     rows::TARGET_WINDOW_2,
     rows::DIVISOR_APPLICATION,
-    rows::INCREMENTAL_KEY_ENABLE,
 ];
 
 impl Generator {
@@ -88,7 +87,7 @@ impl Generator {
     // What is stored.
 
     /// All stored values, over the line or on a sheet; over the line they show nothing of heads of one number.
-    fn look_at_rows(&mut self, number: usize) {
+    pub(super) fn look_at_rows(&mut self, number: usize) {
         if self.random.chance(60) {
             return self.send_from(number, |author| author.read_all_rows());
         }
@@ -210,7 +209,7 @@ impl Generator {
 
     fn load_amid(&mut self, number: usize) {
         let node = self.head(number).number_in_force();
-        let past = self.past_of_a_load(number);
+        let past = self.past_of_a_call(number);
         let sheet = match self.random.chance(25) {
             true => sheets::wrong(&mut self.random),
             false => self.some_sheet(),
@@ -223,7 +222,7 @@ impl Generator {
         }
     }
 
-    fn past_of_a_load(&mut self, number: usize) -> Past {
+    pub(super) fn past_of_a_call(&mut self, number: usize) -> Past {
         match self.random.below(10) {
             0..=1 => self.begin_telegram(number),
             2..=3 => self.damage_two(number),

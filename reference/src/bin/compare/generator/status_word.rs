@@ -7,7 +7,6 @@ use reference::head::Head;
 use reference::rows::{self, ROWS};
 use reference::telegram::{Telegram, BROADCAST, READ, TELEGRAM_LENGTH, WRITE};
 
-const INCREMENTAL: u16 = 1 << 9;
 const CLEAR_STATIC: u16 = 1 << 4;
 const ACKNOWLEDGE: u16 = 1 << 5;
 const SET_POINT_2_VALID: u16 = 1 << 9;
@@ -70,9 +69,6 @@ impl Generator {
             self.leave(number);
         }
         let head = self.head(number);
-        if head.status_word() & INCREMENTAL != 0 && self.random.chance(70) {
-            self.switch_incremental(number);
-        }
         if self.random.chance(60) {
             self.move_by_some(number);
         }
@@ -94,12 +90,11 @@ impl Generator {
     }
 
     pub(super) fn give_the_word_a_bit(&mut self, number: usize) {
-        match self.random.below(8) {
+        match self.random.below(7) {
             0..=1 => self.write_to(number, &[(rows::FREEZE, 1)]),
             2..=3 => self.send_from(number, |author| three_damaged(author, None)),
             4 => self.send_from(number, |author| author.write_set_point_1().bytes().to_vec()),
-            5..=6 => self.keys_of(number, &[0, 2, 2, 3, 6]),
-            _ => self.switch_incremental(number),
+            _ => self.keys_of(number, &[0, 2, 2, 3, 4, 6]),
         }
     }
 
@@ -388,6 +383,7 @@ mod tests {
                 Command::Power { head } => drop(self.line.power(head)),
                 Command::Space { size } => self.space = vec![0; size],
                 Command::Load { head, sheet } => drop(self.line.load(head, &sheet)),
+                Command::Bring { head } => drop(self.line.bring(head)),
                 Command::Xor { .. } | Command::Save { .. } => {}
             }
         }
