@@ -9,7 +9,7 @@ use libc::{STDIN_FILENO, STDOUT_FILENO};
 use state::parts::Head;
 
 // What a byte draws: the head after it, and the line of its reply where there is one.
-#[derive(Drop)]
+#[derive(Clone, Copy)]
 struct Spoken {
     head: Head,
     replied: bool,
@@ -17,7 +17,7 @@ struct Spoken {
 }
 
 // The head on the bench, and whether there is more to do.
-#[derive(Drop)]
+#[derive(Clone, Copy)]
 struct Bench {
     head: Head,
     going: bool,

@@ -20,7 +20,7 @@ use state::wellformed;
 use wire::{check, telegram};
 
 // Why a telegram is not answered: the head handed in is one that cannot be.
-#[derive(Drop)]
+#[derive(Clone, Copy)]
 pub enum Refusal {
     Malformed,
 }
@@ -40,14 +40,14 @@ impl Refusal {
 
 // What a telegram comes to: the head after it, and its reply, all 0 where there is none.
 #[repr(C)]
-#[derive(Drop)]
+#[derive(Clone, Copy)]
 pub struct Told {
     pub head: Head,
     pub replied: bool,
     pub reply: [u8; 10],
 }
 
-#[derive(Drop)]
+#[derive(Clone, Copy)]
 pub enum Outcome {
     Silence,
     Reply,
@@ -56,7 +56,7 @@ pub enum Outcome {
 
 // The head after a telegram, whether it replies, and its reply, all 0 where there is none.
 #[repr(C)]
-#[derive(Drop)]
+#[derive(Clone, Copy)]
 pub struct Answered {
     pub head: Head,
     pub outcome: Outcome,

@@ -11,7 +11,7 @@ use text::numbers::Number;
 const WHOLE: u32 = 4_294_967_295;
 
 // What a line means: it is passed over, blank or a comment or a heading, it is a row, or it is none of these.
-#[derive(Drop)]
+#[derive(Clone, Copy)]
 pub enum Entry {
     Blank,
     Heading,

@@ -2,14 +2,14 @@
 ghost use Rattle.std.specs.Prelude.{◌≡◌};
 ghost use Rattle.free_number.specs.Used.{refusal_of};
 
-#[derive(Drop)]
+#[derive(Clone, Copy)]
 pub enum Answer {
     Done,
     Refused(Refusal),
 }
 
 // Why a call is refused: the number is not 1..127; it was to be added and is used; it was to be removed and is not used.
-#[derive(Drop)]
+#[derive(Clone, Copy)]
 pub enum Refusal {
     Outside,
     Taken,

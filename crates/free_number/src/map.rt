@@ -11,21 +11,21 @@ const NUMBERS: u64 = 0x7fff_ffff_ffff_ffff;
 
 // Number n is used where bit n - 1, counted through both words, is set.
 #[repr(C)]
-#[derive(Drop)]
+#[derive(Clone, Copy)]
 pub struct Map {
     pub low: u64,
     pub high: u64,
 }
 
 // The map after a call, and what is answered to the call.
-#[derive(Drop)]
+#[derive(Clone, Copy)]
 pub struct Change {
     pub map: Map,
     pub answer: Answer,
 }
 
 // The lowest number from 1 to 127 that is not used, or that all are.
-#[derive(Drop)]
+#[derive(Clone, Copy)]
 pub enum Free {
     Number(u32),
     None,

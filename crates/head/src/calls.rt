@@ -11,41 +11,41 @@ use sheet::{load, write};
 use state::parts::{Head, Setting};
 use state::{older, wellformed};
 
-#[derive(Drop)]
+#[derive(Clone, Copy)]
 pub enum Answer {
     Done,
     Refused(Refusal),
 }
 
 #[repr(C)]
-#[derive(Drop)]
+#[derive(Clone, Copy)]
 pub struct Called {
     pub head: Head,
     pub answer: Answer,
 }
 
-#[derive(Drop)]
+#[derive(Clone, Copy)]
 pub enum Heard {
     Replies(usize),
     Refused(Refusal),
 }
 
 #[repr(C)]
-#[derive(Drop)]
+#[derive(Clone, Copy)]
 pub struct Fed {
     pub head: Head,
     pub heard: Heard,
 }
 
 // Which bits of the last damaged telegram were hit: its exclusive-or, 0 where there was none since the restart.
-#[derive(Drop)]
+#[derive(Clone, Copy)]
 pub enum Hit {
     Bits(u8),
     Refused(Refusal),
 }
 
 // The serial number that a head was made with.
-#[derive(Drop)]
+#[derive(Clone, Copy)]
 pub enum Serial {
     Number(u32),
     Refused(Refusal),

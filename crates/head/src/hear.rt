@@ -28,7 +28,7 @@ fn kept(e: Ear, at: u32) -> Ear
 
 // A byte more: the bytes so far, or the ten of a telegram.
 #[repr(C)]
-#[derive(Drop)]
+#[derive(Clone, Copy)]
 pub struct Gathered {
     pub whole: bool,
     pub ear: Ear,
@@ -134,7 +134,7 @@ fn told(j: Judged, h: Head, at: u32) -> Head
 
 // What a head does with a byte, a telegram or a key state: the head after it, and the reply if there is one.
 #[repr(C)]
-#[derive(Drop)]
+#[derive(Clone, Copy)]
 pub struct Stepped {
     pub head: Head,
     pub replied: bool,

@@ -2,7 +2,7 @@
 ghost use Rattle.std.specs.Prelude.{◌≡◌, Bool};
 ghost use Rattle.judge.specs.Commands.{command_of, reads_of, writes_of, casts_of, changes_of};
 
-#[derive(Drop)]
+#[derive(Clone, Copy)]
 pub enum Command {
     Read,
     Write,

@@ -9,7 +9,7 @@ use rows::kind::{Kind, Order};
 use wire::fault::Fault;
 use wire::telegram::Telegram;
 
-#[derive(Drop)]
+#[derive(Clone, Copy)]
 pub enum Deed {
     // Nothing: it was refused or not heard, or it only reads.
     Nothing,

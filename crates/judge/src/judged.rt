@@ -10,7 +10,7 @@ use rows::kind::Kind;
 use wire::telegram::Telegram;
 
 #[repr(C)]
-#[derive(Drop)]
+#[derive(Clone, Copy)]
 pub struct Judged {
     pub telegram: Telegram,
     pub hit: u8,

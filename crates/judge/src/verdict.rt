@@ -12,7 +12,7 @@ use rows::table::Place;
 use wire::fault::Fault;
 use wire::telegram::Telegram;
 
-#[derive(Drop)]
+#[derive(Clone, Copy)]
 pub enum Verdict {
     Obeyed,
     Silent,
@@ -21,7 +21,7 @@ pub enum Verdict {
 
 // What the checks ask of a head: its number in force, whether it is locked, how many input errors it holds.
 #[repr(C)]
-#[derive(Drop)]
+#[derive(Clone, Copy)]
 pub struct Standing {
     pub number: u32,
     pub locked: bool,

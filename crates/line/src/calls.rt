@@ -14,21 +14,21 @@ use state::parts::Head;
 
 // Places for 32 heads, of which the first `count` are on the wire.
 #[repr(C)]
-#[derive(Drop)]
+#[derive(Clone, Copy)]
 pub struct Line {
     pub heads: [Head; 32],
     pub count: usize,
 }
 
 #[repr(C)]
-#[derive(Drop)]
+#[derive(Clone, Copy)]
 pub struct Called {
     pub line: Line,
     pub answer: Answer,
 }
 
 #[repr(C)]
-#[derive(Drop)]
+#[derive(Clone, Copy)]
 pub struct Fed {
     pub line: Line,
     pub heard: Heard,
@@ -36,7 +36,7 @@ pub struct Fed {
 
 // The line after a stretch of bytes, what the last of them that was heard drew, and the place of the next.
 #[repr(C)]
-#[derive(Drop)]
+#[derive(Clone, Copy)]
 pub struct Stretch {
     pub line: Line,
     pub heard: Heard,

@@ -6,7 +6,7 @@ use head::calls;
 
 // The replies so far: how many, and the last.
 #[repr(C)]
-#[derive(Drop)]
+#[derive(Clone, Copy)]
 pub struct Replies {
     pub count: usize,
     pub last: [u8; 10],

@@ -6,7 +6,7 @@ use wire::telegram::Telegram;
 use wire::{check, telegram, word};
 
 // Why a telegram is not built: its command is above 02h, or its node above 127.
-#[derive(Drop)]
+#[derive(Clone, Copy)]
 pub enum Refusal {
     Outside,
 }
@@ -24,7 +24,7 @@ impl Refusal {
     }
 }
 
-#[derive(Drop)]
+#[derive(Clone, Copy)]
 pub enum Answer {
     Done,
     Refused(Refusal),
@@ -32,14 +32,14 @@ pub enum Answer {
 
 // The ten bytes of a telegram, and all 0 where none is built.
 #[repr(C)]
-#[derive(Drop)]
+#[derive(Clone, Copy)]
 pub struct Built {
     pub answer: Answer,
     pub ten: [u8; 10],
 }
 
 // What bytes say as the reply to a question: its value, its error code, or that they are no reply to what was asked.
-#[derive(Drop)]
+#[derive(Clone, Copy)]
 pub enum Reading {
     Value(u32),
     Error(u16),

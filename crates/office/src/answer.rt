@@ -11,7 +11,7 @@ use text::laying;
 const ROOM: usize = 64;
 
 // An answer: so many characters at the start of the text.
-#[derive(Drop)]
+#[derive(Clone, Copy)]
 pub(crate) struct Line {
     pub text: [u8; ROOM],
     pub count: usize,

@@ -11,7 +11,7 @@ use script::telegrams::Entry;
 use state::parts::Head;
 
 // The head after a line, and the answer to it.
-#[derive(Drop)]
+#[derive(Clone, Copy)]
 pub(crate) struct Spoken {
     pub head: Head,
     pub line: Line,

@@ -13,7 +13,7 @@ const KEPT: usize = 4098;
 
 // How far the list is read: the head, how many lines there were, how much of the next is kept, whether all answers could be written, and whether the
 // list has ended.
-#[derive(Drop)]
+#[derive(Clone, Copy)]
 struct Reading {
     head: Head,
     lines: u64,

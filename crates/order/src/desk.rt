@@ -17,7 +17,7 @@ const ROOM: usize = 127;
 
 // The rows, the line that each stands in, the numbers that they have, how many lines there were, whether all of them were blank or comments, and the
 // first that is malformed, 0 where none is.
-#[derive(Drop)]
+#[derive(Clone, Copy)]
 pub(crate) struct Desk {
     pub form: Form,
     pub places: [u64; 127],
@@ -28,7 +28,7 @@ pub(crate) struct Desk {
 }
 
 // What the clerk is told. Lines are counted from 1. A form that is sent back comes with the lowest number that none of its rows has.
-#[derive(Drop)]
+#[derive(Clone, Copy)]
 pub(crate) enum Notice {
     Accepted(usize),
     SameSerial {

@@ -13,7 +13,7 @@ use text::lines;
 const KEPT: usize = 4101;
 
 // How far the form is read: the desk, how much of the next line is kept, whether the form has ended, and whether it could not be read.
-#[derive(Drop)]
+#[derive(Clone, Copy)]
 struct Reading {
     desk: Desk,
     kept: usize,

@@ -5,7 +5,7 @@ ghost use Rattle.order_form.specs.Check.{refusal_of};
 use crate::row::Column;
 
 // Rows are counted from 0. `Repeats`: in that column the row named first has what the row named second, an earlier one, has.
-#[derive(Drop)]
+#[derive(Clone, Copy)]
 pub enum Answer {
     AllDiffer,
     Repeats(Column, usize, usize),
@@ -13,7 +13,7 @@ pub enum Answer {
 }
 
 // Why a form is refused: a row's node number is not 1..127, and the first such row is named; or there are more than 127 rows.
-#[derive(Drop)]
+#[derive(Clone, Copy)]
 pub enum Refusal {
     Outside(usize),
     TooMany,

@@ -10,7 +10,7 @@ use crate::search;
 const MOST: usize = 127;
 
 // The first `count` are the form's rows. A count of more than 127 stands for any number of rows above 127, of which the first 127 are kept.
-#[derive(Drop)]
+#[derive(Clone, Copy)]
 pub struct Form {
     pub rows: [Row; 127],
     pub count: usize,

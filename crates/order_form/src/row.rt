@@ -4,14 +4,14 @@ ghost use Rattle.order_form.specs.Rows.{value_of};
 
 // A head by its serial, and the node number that it is to get.
 #[repr(C)]
-#[derive(Drop)]
+#[derive(Clone, Copy)]
 pub struct Row {
     pub serial: u32,
     pub node: u32,
 }
 
 // What of a row may stand in one row only.
-#[derive(Drop)]
+#[derive(Clone, Copy)]
 pub enum Column {
     Serial,
     Number,

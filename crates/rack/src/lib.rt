@@ -12,20 +12,20 @@ use line::calls::Line;
 
 // How many replies were laid, and how many collisions there were.
 #[repr(C)]
-#[derive(Drop)]
+#[derive(Clone, Copy)]
 pub struct Tally {
     pub replies: usize,
     pub collisions: usize,
 }
 
-#[derive(Drop)]
+#[derive(Clone, Copy)]
 pub enum Answer {
     Laid(Tally),
     Refused(Refusal),
 }
 
 #[repr(C)]
-#[derive(Drop)]
+#[derive(Clone, Copy)]
 pub struct Racked {
     pub line: Line,
     pub answer: Answer,

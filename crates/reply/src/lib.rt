@@ -16,7 +16,7 @@ use wire::telegram::Telegram;
 
 // A reply, if there is one.
 #[repr(C)]
-#[derive(Drop)]
+#[derive(Clone, Copy)]
 pub struct Said {
     pub replied: bool,
     pub reply: [u8; 10],

@@ -2,7 +2,7 @@
 ghost use Rattle.std.specs.Prelude.{◌≡◌};
 ghost use Rattle.rows.specs.Access.{access_of, broadcast_of};
 
-#[derive(Drop)]
+#[derive(Clone, Copy)]
 pub enum Access {
     ReadWrite,
     ReadOnly,

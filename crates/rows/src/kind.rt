@@ -6,7 +6,7 @@ use crate::table;
 use crate::table::Place;
 
 // What a read only parameter shows.
-#[derive(Drop)]
+#[derive(Clone, Copy)]
 pub enum Shown {
     Identification,
     Version,
@@ -20,7 +20,7 @@ pub enum Shown {
 }
 
 // What a write only parameter orders.
-#[derive(Drop)]
+#[derive(Clone, Copy)]
 pub enum Order {
     System,
     Calibration,
@@ -30,7 +30,7 @@ pub enum Order {
 }
 
 // The parameters by their access groups. Those that are read and written are the 39, by their places, and the two set points.
-#[derive(Drop)]
+#[derive(Clone, Copy)]
 pub enum Kind {
     Stored(usize),
     SetPoint1,

@@ -6,7 +6,7 @@ ghost use Rattle.rows.specs.Ranges.{is_signed_of, reading_of, unlisted_of, betwe
 use crate::table;
 use crate::table::{Place, Row};
 
-#[derive(Drop)]
+#[derive(Clone, Copy)]
 pub enum Range {
     Right,
     Low,

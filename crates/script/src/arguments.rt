@@ -8,7 +8,7 @@ use text::numbers;
 use text::numbers::{Number, Value};
 
 // What comes after the numbers: no word, a number of 32 bits with a sign, bytes, or bytes that may be left out.
-#[derive(Drop)]
+#[derive(Clone, Copy)]
 pub(crate) enum Last {
     Nothing,
     Signed,
@@ -17,11 +17,11 @@ pub(crate) enum Last {
 }
 
 // What a command takes: the limits of its numbers, how many numbers these are, and what comes after them.
-#[derive(Drop)]
+#[derive(Clone, Copy)]
 pub(crate) struct Takes(pub [u32; 6], pub usize, pub Last);
 
 // What the words say, where they fit, and 0 for what the command does not take. The bytes stay in the line: their digits start at the place `from`.
-#[derive(Drop)]
+#[derive(Clone, Copy)]
 pub(crate) struct Arguments {
     pub fit: bool,
     pub first: u32,

@@ -25,7 +25,7 @@ const LARGEST_SPACE: u32 = 1024;
 
 // What a line means: nothing to do, none of the commands, or a command. The bytes of a `Send`, of a `Load` and of a `Rack` stay in the line: their
 // digits start at the place `from`, and `byte_at` reads them.
-#[derive(Drop)]
+#[derive(Clone, Copy)]
 pub enum Command {
     Blank,
     Malformed,
@@ -74,7 +74,7 @@ pub enum Command {
 }
 
 // The command word, or any other.
-#[derive(Drop)]
+#[derive(Clone, Copy)]
 enum Name {
     Other,
     Head,

@@ -11,7 +11,7 @@ const TEN: usize = 10;
 
 // What a line of a list of telegrams means: nothing to do, no telegram, or one. Its bytes stay in the line: their digits start at the place, and
 // `byte_at` reads them.
-#[derive(Drop)]
+#[derive(Clone, Copy)]
 pub enum Entry {
     Blank,
     Malformed,

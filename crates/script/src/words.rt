@@ -11,7 +11,7 @@ use text::lines;
 const LONGEST: usize = 4096;
 
 // The kinds of lines: too long, whatever stands in it; passed over; or one that goes by its words, of which the first starts at the place.
-#[derive(Drop)]
+#[derive(Clone, Copy)]
 pub(crate) enum Kind {
     Long,
     Passed,

@@ -107,7 +107,7 @@ fn store_rows(values: [u32; 39], sheet: &[u8], n: u8) -> [u32; 39]
     v
 }
 
-#[derive(Drop)]
+#[derive(Clone, Copy)]
 pub struct Loaded {
     pub values: [u32; 39],
     pub answer: Answer,

@@ -8,14 +8,14 @@ ghost use Rattle.sheet.specs.Reader.{new_of, advanced_of};
 use crate::format;
 use crate::refusal::Refusal;
 
-#[derive(Drop)]
+#[derive(Clone, Copy)]
 pub struct SheetReader<'a> {
     pub sheet: &'a [u8],
     pub row: u8,
 }
 
 // What is handed out: a row's address and value, or that none is left.
-#[derive(Drop)]
+#[derive(Clone, Copy)]
 pub enum Reading {
     Row(u8, u32),
     End,

@@ -3,7 +3,7 @@ use libc::STDOUT_FILENO;
 use text::laying;
 
 // An answer that is being put together: how much of it stands in the lent text, and whether what did not fit before could be written.
-#[derive(Drop)]
+#[derive(Clone, Copy)]
 pub(crate) struct Answering {
     pub kept: usize,
     pub written: bool,

@@ -10,7 +10,7 @@ use wire::telegram::Telegram;
 use wire::word;
 
 // What a byte of an ask drew: nothing, one reply as the master reads it, or so many at once.
-#[derive(Drop)]
+#[derive(Clone, Copy)]
 pub(crate) enum Drawn {
     Nothing,
     Reply(Reading),

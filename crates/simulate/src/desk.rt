@@ -18,14 +18,14 @@ use wire::telegram::Telegram;
 const MOST_SPACE: usize = 1024;
 
 // The line, and how much space its byte, key, save and rack calls lend.
-#[derive(Drop)]
+#[derive(Clone, Copy)]
 pub(crate) struct Desk {
     pub line: Line,
     pub space: usize,
 }
 
 // The desk after a command, and whether its answer could be written.
-#[derive(Drop)]
+#[derive(Clone, Copy)]
 pub(crate) struct Obeyed {
     pub desk: Desk,
     pub written: bool,

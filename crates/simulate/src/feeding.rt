@@ -10,14 +10,14 @@ use line::calls::Line;
 use wire::telegram::Telegram;
 
 // What bytes are fed for: a send, or an ask of this question, whose telegram they are.
-#[derive(Drop)]
+#[derive(Clone, Copy)]
 pub(crate) enum Purpose {
     Send,
     Ask(Telegram),
 }
 
 // The line after the bytes that were fed, and what they drew.
-#[derive(Drop)]
+#[derive(Clone, Copy)]
 pub(crate) struct Sent {
     pub line: Line,
     pub answering: Answering,

@@ -13,7 +13,7 @@ const KEPT: usize = 4098;
 
 // How far the script is read: the desk, how many lines there were, how much of the next is kept, whether all answers could be written,
 // and whether the script has ended.
-#[derive(Drop)]
+#[derive(Clone, Copy)]
 struct Reading {
     desk: Desk,
     lines: u64,

@@ -10,7 +10,7 @@ use line::calls;
 use line::calls::{Called, Line};
 
 // What a save came to: the call's answer, and the line to write where that is Done.
-#[derive(Drop)]
+#[derive(Clone, Copy)]
 pub(crate) struct Saved {
     pub answer: Answer,
     pub text: [u8; 555],

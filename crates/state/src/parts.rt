@@ -1,6 +1,6 @@
 // A head by value, in small parts. Stored is all that demand 3 speaks of.
 #[repr(C)]
-#[derive(Drop)]
+#[derive(Clone, Copy)]
 pub struct ErrorList {
     pub codes: [u16; 10],
     pub count: u32,
@@ -9,7 +9,7 @@ pub struct ErrorList {
 // The 39 values as words on the wire, the number and the baud setting in force, the number that is offered by Auto-ID (0: none), the serial number
 // that the head was made with, which nothing changes, and whether the interlock is open.
 #[repr(C)]
-#[derive(Drop)]
+#[derive(Clone, Copy)]
 pub struct Stored {
     pub values: [u32; 39],
     pub number: u32,
@@ -22,7 +22,7 @@ pub struct Stored {
 // Remembered errors and input errors, the pending error (0: none), the exclusive-or of the last damaged telegram since the restart (0: none),
 // damaged telegrams in a row.
 #[repr(C)]
-#[derive(Drop)]
+#[derive(Clone, Copy)]
 pub struct Faults {
     pub memory: ErrorList,
     pub inputs: ErrorList,
@@ -34,7 +34,7 @@ pub struct Faults {
 // `kept` is what FEh showed at freezing, 0 while it is off. Incremental measurement is retired: an older head may still have it on, `start` being the m
 // at switching it on, and is handed in with both.
 #[repr(C)]
-#[derive(Drop)]
+#[derive(Clone, Copy)]
 pub struct Measurement {
     pub m: i32,
     pub zero: i32,
@@ -48,7 +48,7 @@ pub struct Measurement {
 // Both set points with their validity, the last taken control word, the static bit, and whether each set point is acknowledged, which only
 // alpha-numeric display knows.
 #[repr(C)]
-#[derive(Drop)]
+#[derive(Clone, Copy)]
 pub struct Targets {
     pub first: u32,
     pub valid1: bool,
@@ -62,7 +62,7 @@ pub struct Targets {
 
 // The bus timeout: running since the last sound telegram, and when that came (0 while it is stopped).
 #[repr(C)]
-#[derive(Drop)]
+#[derive(Clone, Copy)]
 pub struct Monitor {
     pub running: bool,
     pub since: u32,
@@ -70,7 +70,7 @@ pub struct Monitor {
 
 // The bytes gathered, how many, and when the last byte came.
 #[repr(C)]
-#[derive(Drop)]
+#[derive(Clone, Copy)]
 pub struct Ear {
     pub bytes: [u8; 10],
     pub count: usize,
@@ -78,7 +78,7 @@ pub struct Ear {
 }
 
 #[repr(C)]
-#[derive(Drop)]
+#[derive(Clone, Copy)]
 pub struct Head {
     pub stored: Stored,
     pub faults: Faults,
@@ -90,7 +90,7 @@ pub struct Head {
 }
 
 // The places of the parameters that a head itself goes by.
-#[derive(Drop)]
+#[derive(Clone, Copy)]
 pub struct Setting {}
 
 impl Setting {

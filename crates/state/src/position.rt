@@ -6,7 +6,7 @@ use crate::parts::{Measurement, Setting};
 
 // A, and what FEh shows while nothing is frozen.
 #[repr(C)]
-#[derive(Drop)]
+#[derive(Clone, Copy)]
 pub struct Readout {
     pub actual: i64,
     pub shown: i64,

@@ -8,7 +8,7 @@ use crate::{mode, position};
 
 // How A lies to set point 2: inside target window 1 (20h), inside window 2 (31h), above it, and the way to go.
 #[repr(C)]
-#[derive(Drop)]
+#[derive(Clone, Copy)]
 pub struct Bearing {
     pub inside1: bool,
     pub inside2: bool,

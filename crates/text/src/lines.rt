@@ -3,7 +3,7 @@ ghost use Rattle.std.specs.Prelude.{◌≡◌, length, drop};
 ghost use Rattle.text.specs.Lines.{bare_of, front_of, taken_of, filled_of};
 
 // What was taken of a piece of text: how much of the line is kept then, where the piece goes on, and whether the line has ended.
-#[derive(Drop)]
+#[derive(Clone, Copy)]
 pub struct Taken {
     pub kept: usize,
     pub at: usize,

@@ -2,7 +2,7 @@
 ghost use Rattle.std.specs.Prelude.{◌≡◌};
 ghost use Rattle.wire.specs.Faults.{code_of};
 
-#[derive(Drop)]
+#[derive(Clone, Copy)]
 pub enum Fault {
     CheckSum,
     Timeout,

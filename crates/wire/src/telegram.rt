@@ -6,7 +6,7 @@ use crate::word;
 
 // `word` is the control word of a command and the status word of a reply; `value` is the data.
 #[repr(C)]
-#[derive(Drop)]
+#[derive(Clone, Copy)]
 pub struct Telegram {
     pub command: u8,
     pub node: u8,
