@@ -11,12 +11,6 @@ use lib.Dec.{eqb}
 use borrow.Author.Tests.{eqb-true, eqb-false}
 use Rattle.sheet.specs.Each.{each}
 
-pub next : (test : ℕ → Bool) (i : ℕ) {ok here : Bool} → ok ≡ each test i → here ≡ test i → (ok && here) ≡ each test (i + 1)
-next test i e h = rw (add-one, e, h)
-
-pub ended : (test : ℕ → Bool) (i n : ℕ) {ok : Bool} → i ≤ n → n ≤ i → ok ≡ each test i → ok ≡ each test n
-ended test i n p q e = let s : i ≡ n = omega arith in rw s at e
-
 -- the last of the numbers below suc n, or one before it
 pub last : (i n : ℕ) → i < suc n → (i ≡ n) ⊎ (i < n)
 last i n p = go (eqb i n) refl
