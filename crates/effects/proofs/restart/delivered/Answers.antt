@@ -1,8 +1,6 @@
 -- `effects::restart::delivered` meets its contract: reset 1 gives every place its delivery value.
-use mathlib.Core.Path.{◌∙◌}
 use Rattle.effects.specs.Restart.{delivered_of}
 use Rattle.effects.proofs.Resets.{all_delivered}
-use borrow.Author.Rules.{rules}
 use Rattle.effects.proofs.restart.delivered.Goals as goal
 
 pub returns : goal.returns

@@ -1,8 +1,0 @@
--- `engine::aims::aim_second` meets its contract: the bits are what `bit` says, the rest by those of its callees.
-use Rattle.engine.specs.Does.{aim_second}
-use borrow.Author.Rules.{rules}
-use Rattle.engine.proofs.aims.aim_second.Goals as goal
-
-pub returns : goal.returns
-unfolding aim_second
-returns c = rw (c.settle.ensures, c.give-g.ensures, c.bit-2.ensures, c.bit.ensures, c.acknowledge-n.ensures, c.displays-mode3.ensures)
