@@ -1,4 +1,6 @@
 // Numbers with a sign: two's complement, size and distance, rounding, the differential value. Every function is defined for every input.
+#![tactic(auto)]
+
 ghost use Rattle.std.specs.Prelude.{◌≡◌, ◌≤◌, nat_abs, ◌-ℤ◌};
 ghost use Rattle.signed.specs.Number.{minus, number_of, word_of, distance_of};
 ghost use Rattle.signed.specs.Rounding.{divisor_of, nearest_of, rounded_of};
@@ -69,6 +71,7 @@ pub fn divisor(k: u32) -> u64
 }
 
 // A size by 10 to the power k, to the nearest, halves up.
+#[tactic(auto, using(crate::proofs::Rounds::divisor_some))]
 fn nearest(n: u64, k: u32) -> u64
     requires { n ≤ 9223372036854775808 }
     ensures { result ≡ nearest_of n (divisor_of k) }
