@@ -11,6 +11,7 @@ fn digit(n: u8) -> u8
 }
 
 // The digits of the bytes at the start of the text. A text that is too short for them stays as it is.
+#[tactic(auto, unfolding(crate::specs::Digits::spelled_on))]
 pub fn spell(bytes: &[u8], text: &mut [u8])
     ensures { text.new ≡ spelled_on text.old bytes.now }
 {
