@@ -1,6 +1,5 @@
 -- `text::lines::bare_length` meets its contract: at each return the tests that led there say which case of the definition holds.
 use native.Mathlib.Omega.{arith}
-use borrow.Author.Rules.{rules}
 use borrow.Author.Tests.{eq-eqb, ne_eqb}
 use Prim.Native.Nat.{ℕ}
 use mathlib.Core.Path.{◌≡◌, refl, sym}

@@ -1,10 +1,8 @@
 -- `text::lines::take_in` meets its contract: what is left of the piece, taken into the line as it is, gives what was asked for.
-use Prim.Native.Nat.{◌-◌}
-use mathlib.Core.Path.{◌≡◌, refl, ◌∙◌}
+use mathlib.Core.Path.{refl, ◌∙◌}
 use native.Mathlib.Omega.{arith}
 use lib.ListN.{length, length-set}
-use Rattle.text.specs.Lines.{taken_of}
-use Rattle.text.proofs.Filled.{line_of, past, newline, stored, dropped}
+use Rattle.text.proofs.Filled.{past, newline, stored, dropped}
 use Rattle.text.proofs.lines.take_in.Goals as goal
 
 pub loop-i-init : goal.loop-i-init

@@ -1,11 +1,10 @@
 -- `text::numbers::decimal` meets its contract. The invariant: what the word comes to is what its characters from place i on come to, that
 -- follow on others of the value v, and v is no more than the limit.
 use Prim.Native.Nat.{◌≤◌, ◌-◌}
-use mathlib.Core.Path.{◌≡◌, sym, ◌∙◌}
-use native.Mathlib.Omega.{arith}
+use mathlib.Core.Path.{◌≡◌}
 use lib.ListN.{length, drop}
 use Rattle.text.specs.Numbers.{number_of}
-use Rattle.text.proofs.Spelled.{in_range, below, above, number_from, number_starts, no_digits, digit_on, digit_over, digit_not, digits_end}
+use Rattle.text.proofs.Spelled.{number_from}
 use Rattle.text.proofs.numbers.decimal.Given as goal
 
 abbrev pub invariant-loop-i : goal.invariant-loop-i

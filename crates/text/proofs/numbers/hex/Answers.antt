@@ -1,6 +1,5 @@
 -- `text::numbers::hex` meets its contract: at each return the tests that led there say which case of the definition holds.
 use native.Mathlib.Omega.{arith}
-use borrow.Author.Rules.{rules}
 use Rattle.text.specs.Numbers.{hex_of}
 use Rattle.text.proofs.Spelled.{in_range, below, above}
 use Rattle.text.proofs.numbers.hex.Goals as goal

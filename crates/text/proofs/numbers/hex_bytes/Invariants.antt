@@ -1,12 +1,9 @@
 -- `text::numbers::hex_bytes` meets its contract. The invariant: the count is n and what the characters from place i on come to.
 use Prim.Native.Nat.{◌≤◌, ◌-◌}
-use mathlib.Core.Path.{◌≡◌, sym, ◌∙◌}
-use native.Mathlib.Nat.{zero-add}
-use native.Mathlib.Omega.{arith}
-use borrow.Author.Tests.{lt-ltb, le-ltb}
+use mathlib.Core.Path.{◌≡◌}
 use lib.ListN.{length, drop}
 use Rattle.text.specs.Numbers.{count_of}
-use Rattle.text.proofs.Spelled.{count_from, pair_on, pair_not_high, pair_not_low, pair_half, pairs_end}
+use Rattle.text.proofs.Spelled.{count_from}
 use Rattle.text.proofs.numbers.hex_bytes.Given as goal
 
 abbrev pub invariant-loop-i : goal.invariant-loop-i

@@ -1,6 +1,5 @@
 -- `text::numbers::pair` meets its contract: at each return the tests that led there say which case of the definition holds.
 use native.Mathlib.Omega.{arith}
-use borrow.Author.Rules.{rules}
 use borrow.Author.Tests.{lt-ltb, le-ltb}
 use Rattle.text.specs.Numbers.{hex_of, pair_of}
 use Rattle.text.proofs.numbers.pair.Goals as goal

@@ -3,7 +3,6 @@ use Prim.Native.Nat.{ℕ, zero, suc, ◌-◌, ◌≤◌}
 use mathlib.Core.Path.{◌≡◌, refl, sym, ap, ◌∙◌}
 use mathlib.Core.List.{List, [], ◌∷◌}
 use native.Mathlib.Omega.{arith}
-use borrow.Author.Rules.{rules}
 use borrow.Author.Tests.{eq-eqb, ne_eqb}
 use lib.IntN.{pos, neg_ℤ, ◌-ℤ◌, +ℤ_idl}
 use lib.ListN.{length, get_or, take, drop, length-drop}
@@ -53,37 +52,31 @@ module _ (cs : List ℕ) {r x : Number} (k : r ≡ x) where
   unfolding signed_of
   signed-plain e q = simp (ne_eqb (get_or cs 0 0) 45 e, sym k ∙ q)
 
-minus-within : (c : tie.After-known-told) → c.in-Is.n ≤ 2147483648
-minus-within c = number_within 2147483648 _ (sym c.decimal.ensures ∙ c.in-Is.is)
-
-plain-within : (c : tie.After-known-told2) → c.in-Is-decimal.n ≤ 2147483647
-plain-within c = number_within 2147483647 _ (sym c.decimal-2.ensures ∙ c.in-Is-decimal.is)
-
 pub returns-then-word-eq0 : goal.returns-then-word-eq0
 returns-then-word-eq0 c = no_value _ c.if-word-eq0.true
 
 pub overflow_sub-result : goal.overflow_sub-result
-overflow_sub-result c = turned_fits _ (minus-within c)
+overflow_sub-result c = turned_fits _ (number_within 2147483648 _ (sym c.decimal.ensures ∙ c.in-Is.is))
 
 pub overflow_cast-result-in-Is : goal.overflow_cast-result-in-Is
-overflow_cast-result-in-Is c = narrowed-fits _ (minus-within c)
+overflow_cast-result-in-Is c = narrowed-fits _ (number_within 2147483648 _ (sym c.decimal.ensures ∙ c.in-Is.is))
 
 pub returns-in-Is : goal.returns-in-Is
-returns-in-Is c = let k = c in
-    ap value.Is (minus _ (minus-within c)) ∙ signed-minus _ c.in-Is.is k.if-word-eq45.true k.decimal.ensures
+returns-in-Is c =
+    ap value.Is (minus _ (number_within 2147483648 _ (sym c.decimal.ensures ∙ c.in-Is.is))) ∙ signed-minus _ c.in-Is.is c.if-word-eq45.true c.decimal.ensures
 
 pub returns-in-Unfit : goal.returns-in-Unfit
-returns-in-Unfit c = let k = c in
-    signed-minus _ c.in-Unfit.is k.if-word-eq45.true k.decimal.ensures
+returns-in-Unfit c =
+    signed-minus _ c.in-Unfit.is c.if-word-eq45.true c.decimal.ensures
 
 pub overflow_cast-result-in-Is-decimal : goal.overflow_cast-result-in-Is-decimal
-overflow_cast-result-in-Is-decimal c = let h = plain-within c in record { sfits = omega arith }
+overflow_cast-result-in-Is-decimal c = let h = number_within 2147483647 _ (sym c.decimal-2.ensures ∙ c.in-Is-decimal.is) in record { sfits = omega arith }
 
 pub returns-in-Is-decimal : goal.returns-in-Is-decimal
-returns-in-Is-decimal c = let k = c in
-    let h = plain-within c in
-    ap value.Is (to_z_pos w32 {n = c.in-Is-decimal.n} (omega arith)) ∙ signed-plain _ c.in-Is-decimal.is k.if-word-eq45.false k.decimal-2.ensures
+returns-in-Is-decimal c =
+    let h = number_within 2147483647 _ (sym c.decimal-2.ensures ∙ c.in-Is-decimal.is) in
+    ap value.Is (to_z_pos w32 {n = c.in-Is-decimal.n} (omega arith)) ∙ signed-plain _ c.in-Is-decimal.is c.if-word-eq45.false c.decimal-2.ensures
 
 pub returns-in-Unfit-decimal : goal.returns-in-Unfit-decimal
-returns-in-Unfit-decimal c = let k = c in
-    signed-plain _ c.in-Unfit-decimal.is k.if-word-eq45.false k.decimal-2.ensures
+returns-in-Unfit-decimal c =
+    signed-plain _ c.in-Unfit-decimal.is c.if-word-eq45.false c.decimal-2.ensures
