@@ -1,4 +1,6 @@
 // Bytes as upper-case hex digits, as the programs print them.
+#![tactic(auto)]
+
 ghost use Rattle.std.specs.Prelude.{◌≡◌, ◌<◌};
 ghost use Rattle.hex_digits.specs.Digits.{digit_of, spelled_on};
 

@@ -1,5 +1,4 @@
 -- `hex_digits::digit` meets its contract, by its test.
-use borrow.Author.Rules.{rules}
 use borrow.Author.Tests.{lt-ltb, le-ltb}
 use Rattle.hex_digits.proofs.digit.Goals as goal
 

@@ -1,5 +1,5 @@
 -- `hex_digits::spell` meets its contract. After i turns the text starts with the digits of the first i bytes, and the rest is as it was.
-use Prim.Native.Nat.{ℕ, zero, suc, ◌≤◌, ◌<◌, ◌+◌, ◌-◌, ◌*◌, ◌/◌, ◌%◌}
+use Prim.Native.Nat.{ℕ, zero, suc, ◌≤◌, ◌<◌, ◌+◌, ◌*◌, ◌/◌, ◌%◌}
 use mathlib.Core.Path.{◌≡◌, refl, ◌∙◌}
 use mathlib.Core.List.{List, [], ◌∷◌, ◌++◌, append_assoc}
 use native.Mathlib.Omega.{arith}
@@ -57,7 +57,7 @@ loop-i-init c = (search rules, refl, refl, refl, omega (arith, mul-div-le (lengt
 
 pub digit-requires : goal.digit-requires
 unfolding spelled_on
-digit-requires c = omega (arith, c.shared-slice-known2.given c.loop-i.i)
+digit-requires c = omega (arith, c.type_inv.bytes c.loop-i.i)
 
 pub bounds-text-at-in-loop-i : goal.bounds-text-at-in-loop-i
 unfolding spelled_on

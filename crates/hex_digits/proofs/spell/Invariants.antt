@@ -1,15 +1,9 @@
 -- `hex_digits::spell` meets its contract. After i turns the text starts with the digits of the first i bytes, and the rest is as it was.
-use Prim.Native.Nat.{ℕ, zero, suc, ◌≤◌, ◌<◌, ◌+◌, ◌-◌, ◌*◌, ◌/◌, ◌%◌}
-use mathlib.Core.Path.{◌≡◌, refl, ◌∙◌}
-use mathlib.Core.List.{List, [], ◌∷◌, ◌++◌, append_assoc}
-use native.Mathlib.Omega.{arith}
-use native.Mathlib.Numerals.{add-one}
-use native.Mathlib.Nat.{le_of_suc-le-suc, not-suc-le-zero, mul-div-le}
-use borrow.Author.Rules.{rules}
-use borrow.Author.Tests.{lt-ltb, le-ltb}
-use lib.ListN.{length, take, drop, get_or, set, length-set, length-append}
-use lib.Seq.{take_all}
-use Rattle.hex_digits.specs.Digits.{digit_of, digits_of, spelled_on}
+use Prim.Native.Nat.{◌≤◌, ◌-◌, ◌*◌}
+use mathlib.Core.Path.{◌≡◌}
+use mathlib.Core.List.{◌++◌}
+use lib.ListN.{length, take, drop}
+use Rattle.hex_digits.specs.Digits.{digits_of}
 use Rattle.hex_digits.proofs.spell.Given as goal
 
 abbrev pub invariant-loop-i : goal.invariant-loop-i

@@ -63,11 +63,11 @@ overflow_cast-result-in-Is c = narrowed-fits _ (number_within 2147483648 _ (sym 
 
 pub returns-in-Is : goal.returns-in-Is
 returns-in-Is c =
-    ap value.Is (minus _ (number_within 2147483648 _ (sym c.decimal.ensures ∙ c.in-Is.is))) ∙ signed-minus _ c.in-Is.is c.if-word-eq45.true c.decimal.ensures
+    ap value.Is (minus _ (number_within 2147483648 _ (sym c.decimal.ensures ∙ c.in-Is.is))) ∙ signed-minus _ c.in-Is.is (omega arith) c.decimal.ensures
 
 pub returns-in-Unfit : goal.returns-in-Unfit
 returns-in-Unfit c =
-    signed-minus _ c.in-Unfit.is c.if-word-eq45.true c.decimal.ensures
+    signed-minus _ c.in-Unfit.is (omega arith) c.decimal.ensures
 
 pub overflow_cast-result-in-Is-decimal : goal.overflow_cast-result-in-Is-decimal
 overflow_cast-result-in-Is-decimal c = let h = number_within 2147483647 _ (sym c.decimal-2.ensures ∙ c.in-Is-decimal.is) in record { sfits = omega arith }
@@ -75,8 +75,8 @@ overflow_cast-result-in-Is-decimal c = let h = number_within 2147483647 _ (sym c
 pub returns-in-Is-decimal : goal.returns-in-Is-decimal
 returns-in-Is-decimal c =
     let h = number_within 2147483647 _ (sym c.decimal-2.ensures ∙ c.in-Is-decimal.is) in
-    ap value.Is (to_z_pos w32 {n = c.in-Is-decimal.n} (omega arith)) ∙ signed-plain _ c.in-Is-decimal.is c.if-word-eq45.false c.decimal-2.ensures
+    ap value.Is (to_z_pos w32 {n = c.in-Is-decimal.n} (omega arith)) ∙ signed-plain _ c.in-Is-decimal.is (omega arith) c.decimal-2.ensures
 
 pub returns-in-Unfit-decimal : goal.returns-in-Unfit-decimal
 returns-in-Unfit-decimal c =
-    signed-plain _ c.in-Unfit-decimal.is c.if-word-eq45.false c.decimal-2.ensures
+    signed-plain _ c.in-Unfit-decimal.is (omega arith) c.decimal-2.ensures
