@@ -1,6 +1,6 @@
 -- `order_form::search::outside` meets its contract: no row before the loop's place is outside.
 use Prim.Native.Nat.{◌≤◌, ◌-◌}
-use mathlib.Core.Path.{sym, ◌∙◌, ap}
+use mathlib.Core.Path.{◌≡◌, sym, ◌∙◌, ap}
 use mathlib.Core.Bool.{not}
 use native.Mathlib.Omega.{arith}
 use borrow.Author.Rules.{rules}
@@ -15,14 +15,14 @@ pub returns-then-not-node_fits : goal.returns-then-not-node_fits
 returns-then-not-node_fits c = let q = c in
     let a = q.args in
     here is_outside a.n a.rows q.loop-i.i (omega arith) c.loop-i-test.true q.loop-i.invariant.1
-    (ap not (sym c.node_fits.ensures) ∙ c.if-not-node_fits.true)
+    (ap not (sym c.node_fits.ensures ∙ c.if-not-node_fits.true))
 
 pub loop-i-preserved : goal.loop-i-preserved
 loop-i-preserved c = let q = c in
     let a = q.args in (
       omega arith,
       next is_outside a.n a.rows q.loop-i.i (omega arith) c.loop-i-test.true q.loop-i.invariant.1
-          (ap not (sym c.node_fits.ensures) ∙ c.if-not-node_fits.false),
+          (ap not (sym c.node_fits.ensures ∙ c.if-not-node_fits.false)),
     )
 
 pub returns : goal.returns
