@@ -1,5 +1,4 @@
 -- `form_text::read` meets its contract: at each return the tests that led there say which case of the definition holds.
-use borrow.Author.Rules.{rules}
 use borrow.Author.Tests.{eq-eqb, ne_eqb}
 use Rattle.form_text.specs.Form.{read_of}
 use Rattle.form_text.proofs.read.Goals as goal
