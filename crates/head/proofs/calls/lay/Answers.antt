@@ -1,5 +1,4 @@
--- `head::calls::lay` meets its contract. After i turns the space starts with the first i bytes of the reply, and the rest is as it was.
-use Rattle.std.proofs.Common.{◌≡◌, ℕ, zero, suc, ◌-◌, ◌<◌, ◌≤◌, List, [], ◌∷◌, ◌++◌, length, get_or, take, drop, set, refl, ◌∙◌, le_of_suc-le-suc, not-suc-le-zero, add-one, arith, length-set, take_all, rules, le-ltb, lt-ltb}
+use Rattle.std.proofs.Common.{◌≡◌, ℕ, zero, suc, ◌<◌, ◌≤◌, List, [], ◌∷◌, ◌++◌, length, get_or, take, drop, set, refl, ◌∙◌, le_of_suc-le-suc, not-suc-le-zero, add-one, arith, length-set, take_all, rules, le-ltb}
 use Rattle.head.specs.Calls.{laid_on_of}
 use Rattle.head.proofs.calls.lay.Goals as goal
 
@@ -11,13 +10,9 @@ turn d i (a ∷ x) [] p q = absurd (not-suc-le-zero q)
 turn d zero (a ∷ x) (y ∷ s) p q = refl
 turn d (suc i) (a ∷ x) (y ∷ s) p q = rw (turn d i x s (le_of_suc-le-suc p) (le_of_suc-le-suc q))
 
-pub returns-then-space-lt10 : goal.returns-then-space-lt10
-unfolding laid_on_of
-returns-then-space-lt10 c = simp (lt-ltb _ _ c.if-space-lt10.true)
-
 pub loop-i-preserved : goal.loop-i-preserved
-unfolding laid_on_of
-loop-i-preserved c = let k = c.loop-i in
+loop-i-preserved c =
+    let k = c.loop-i in
     let a = c.args in
     let p : k.i < length a.x = search rules in
     let q : k.i < length a.space.now = omega arith in
@@ -25,7 +20,8 @@ loop-i-preserved c = let k = c.loop-i in
 
 pub returns : goal.returns
 unfolding laid_on_of
-returns c = let k = c.loop-i in
+returns c =
+    let k = c.loop-i in
     let a = c.args in
     let e : k.i ≡ 10 = omega arith in
     let l : length a.x ≡ 10 = search rules in
