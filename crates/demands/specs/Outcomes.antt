@@ -19,6 +19,7 @@ use Rattle.rows.proofs.resets as rows-resets
 use Rattle.rows.proofs.table as rows-table
 use Rattle.sheet.proofs.format as sheet-format
 use Rattle.sheet.proofs.load as sheet-load
+use Rattle.sheet.proofs.reader as sheet-reader
 use Rattle.sheet.proofs.refusal as sheet-refusal
 use Rattle.sheet.proofs.write as sheet-write
 use Rattle.judge.proofs.command as judge-command
@@ -44,6 +45,7 @@ use Rattle.head.proofs.refusal as head-refusal
 use Rattle.reply.proofs as reply
 use Rattle.line.proofs.calls as line-calls
 use Rattle.rack.proofs as rack
+use Rattle.order_form.proofs as order_form
 use Rattle.order_form.proofs.answer as order_form-answer
 use Rattle.order_form.proofs.form as order_form-form
 use Rattle.free_number.proofs.answer as free_number-answer
@@ -54,7 +56,7 @@ use Rattle.text.proofs.numbers as text-numbers
 use Rattle.script.proofs as script
 use Rattle.script.proofs.telegrams as script-telegrams
 use Rattle.form_text.proofs as form_text
-use Rattle.hex_digits.proofs as hex
+use Rattle.hex_digits.proofs as hex_digits
 
 -- whatever the arguments a, with two results y and z, and two contents u and v of all that is lent at the return (nothing, where none is lent
 -- to be written): if the contract allows both, the results are equal and so are the contents
@@ -103,6 +105,8 @@ pub record Outcomes : Type 0 where
   pub sheet_format_well_formed : One sheet-format.well_formed.Kinds.ps sheet-format.well_formed.Kinds.r sheet-format.well_formed.Reads.Post
   pub sheet_load_check : One sheet-load.check.Kinds.ps sheet-load.check.Kinds.r sheet-load.check.Reads.Post
   pub sheet_load_load : One sheet-load.load.Kinds.ps sheet-load.load.Kinds.r sheet-load.load.Reads.Post
+  pub sheet_reader_new : One sheet-reader.SheetReader.new.Kinds.ps sheet-reader.SheetReader.new.Kinds.r sheet-reader.SheetReader.new.Reads.Post
+  pub sheet_reader_next : One sheet-reader.SheetReader.next.Kinds.ps sheet-reader.SheetReader.next.Kinds.r sheet-reader.SheetReader.next.Reads.Post
   pub sheet_refusal_number : One sheet-refusal.Refusal.number.Kinds.ps sheet-refusal.Refusal.number.Kinds.r sheet-refusal.Refusal.number.Reads.Post
   pub sheet_write_write : One sheet-write.write.Kinds.ps sheet-write.write.Kinds.r sheet-write.write.Reads.Post
   pub judge_command_command_of : One judge-command.command_of.Kinds.ps judge-command.command_of.Kinds.r judge-command.command_of.Reads.Post
@@ -199,6 +203,7 @@ pub record Outcomes : Type 0 where
   pub order_form_form_blank : One order_form-form.blank.Kinds.ps order_form-form.blank.Kinds.r order_form-form.blank.Reads.Post
   pub order_form_form_add : One order_form-form.add.Kinds.ps order_form-form.add.Kinds.r order_form-form.add.Reads.Post
   pub order_form_form_check : One order_form-form.check.Kinds.ps order_form-form.check.Kinds.r order_form-form.check.Reads.Post
+  pub order_form_check_rows : One order_form.check_rows.Kinds.ps order_form.check_rows.Kinds.r order_form.check_rows.Reads.Post
   pub free_number_answer_number : One free_number-answer.Refusal.number.Kinds.ps free_number-answer.Refusal.number.Kinds.r free_number-answer.Refusal.number.Reads.Post
   pub free_number_map_empty : One free_number-map.empty.Kinds.ps free_number-map.empty.Kinds.r free_number-map.empty.Reads.Post
   pub free_number_map_add : One free_number-map.add.Kinds.ps free_number-map.add.Kinds.r free_number-map.add.Reads.Post
@@ -216,4 +221,4 @@ pub record Outcomes : Type 0 where
   pub script_byte_at : One script.byte_at.Kinds.ps script.byte_at.Kinds.r script.byte_at.Reads.Post
   pub script_telegrams_meaning : One script-telegrams.meaning.Kinds.ps script-telegrams.meaning.Kinds.r script-telegrams.meaning.Reads.Post
   pub form_text_entry : One form_text.entry.Kinds.ps form_text.entry.Kinds.r form_text.entry.Reads.Post
-  pub hex_spell : One hex.spell.Kinds.ps hex.spell.Kinds.r hex.spell.Reads.Post
+  pub hex_digits_spell : One hex_digits.spell.Kinds.ps hex_digits.spell.Kinds.r hex_digits.spell.Reads.Post

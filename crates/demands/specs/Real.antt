@@ -33,20 +33,21 @@ use Rattle.sheet.specs.Loading as loading
 use Rattle.sheet.specs.Writing as writing
 use Rattle.sheet.proofs.format as sheet-format
 use Rattle.sheet.proofs.load as sheet-load
-use Rattle.sheet.proofs.reader as sheet-reader
+use Rattle.sheet.specs.contracts.reader as sheet-reader
 use Rattle.sheet.proofs.refusal as sheet-refusal
 use Rattle.sheet.proofs.write as sheet-write
 use Rattle.order_form.specs.declared.row.Row.{Row}
 use Rattle.order_form.specs.declared.answer.Answer.{Answer}
 use Rattle.order_form.specs.Check as form
 use Rattle.order_form.specs.Held.{blank_of, add_of, check_of, add_all}
-use Rattle.order_form.proofs as order_form
+use Rattle.order_form.specs.contracts as order_form
 use Rattle.order_form.proofs.form as order_form-form
-use Rattle.order_form.proofs.row as form-row
+use Rattle.order_form.specs.contracts.row as form-row
 use Rattle.order_form.proofs.answer as order_form-answer
 use Rattle.free_number.specs.declared.map.Map.{Map}
 use Rattle.free_number.specs.Used as free
 use Rattle.free_number.specs.Demand.{Keeper}
+use Rattle.free_number.specs.contracts.map as free_number-fields
 use Rattle.free_number.proofs.map as free_number-map
 use Rattle.free_number.proofs.answer as free_number-answer
 use Rattle.master.specs.Demand.{Master}
@@ -228,8 +229,8 @@ pub record RealForm (check : List Row → Answer) : Type 2 where
 -- The map of used numbers that a program calls is the one that the demands on it are proved of (the crate free_number, Demand).
 pub record RealMap (k : Keeper) : Type 2 where
   -- a map is two words of 64 bits, the lower and then the upper
-  pub words : (free_number-map.Map.struct).parts ≡ u64-field ∷ u64-field ∷ []
-  pub in_order : (m : Map) → (free_number-map.Map.struct).as_values m ≡ (m.low, (m.high, tt))
+  pub words : (free_number-fields.Map.struct).parts ≡ u64-field ∷ u64-field ∷ []
+  pub in_order : (m : Map) → (free_number-fields.Map.struct).as_values m ≡ (m.low, (m.high, tt))
   -- any two words are a map, and any number may be named
   pub empty_asks : AsksNothing free_number-map.empty.Kinds.ps free_number-map.empty.Reads.Asked
   pub add_asks : AsksNothing free_number-map.add.Kinds.ps free_number-map.add.Reads.Asked
