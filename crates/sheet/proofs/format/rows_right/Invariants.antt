@@ -1,10 +1,8 @@
 -- `sheet::format::rows_right` meets its contract. After i turns it has found what the definition asks of the first i rows.
 use Prim.Native.Nat.{◌≤◌, ◌-◌}
-use mathlib.Core.Path.{◌≡◌, refl}
+use mathlib.Core.Path.{◌≡◌}
 use Rattle.sheet.specs.Each.{each}
 use Rattle.sheet.specs.Format.{row_right}
-use Rattle.sheet.proofs.Each.{next, ended}
-use native.Mathlib.Omega.{arith}
 use Rattle.sheet.proofs.format.rows_right.Given as goal
 
 abbrev pub invariant-loop-i : goal.invariant-loop-i

@@ -1,6 +1,5 @@
 -- `sheet::format::well_formed` meets its contract: too many rows, and another length than the count asks for, are refused as the definition refuses them.
 use Rattle.sheet.proofs.Shape.{whole, too_many, other_length}
-use borrow.Author.Rules.{rules}
 use Rattle.sheet.proofs.format.well_formed.Goals as goal
 
 pub returns-then-sheet-n : goal.returns-then-sheet-n

@@ -1,11 +1,7 @@
 -- `sheet::load::store_rows` meets its contract. After i turns the values are those after a write of each of the first i rows.
 use Prim.Native.Nat.{◌≤◌, ◌-◌}
-use mathlib.Core.Path.{◌≡◌, refl, sym, ◌∙◌}
-use Rattle.rows.proofs.Laws.{place_below}
+use mathlib.Core.Path.{◌≡◌}
 use Rattle.sheet.specs.Loading.{stored_rows}
-use Rattle.sheet.proofs.Store.{row_stored}
-use borrow.Author.Rules.{rules}
-use native.Mathlib.Omega.{arith}
 use Rattle.sheet.proofs.load.store_rows.Given as goal
 
 abbrev pub invariant-loop-i : goal.invariant-loop-i

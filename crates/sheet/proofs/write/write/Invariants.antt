@@ -1,15 +1,9 @@
 -- `sheet::write::write` meets its contract. After k turns the space starts with the first k bytes of the sheet, and the rest is as it was.
-use Prim.Native.Nat.{◌≤◌, ◌<◌, ◌-◌}
-use mathlib.Core.Path.{◌≡◌, refl, ◌∙◌}
+use Prim.Native.Nat.{◌≤◌, ◌-◌}
+use mathlib.Core.Path.{◌≡◌}
 use mathlib.Core.List.{◌++◌}
-use native.Mathlib.Numerals.{add-one}
-use borrow.Author.Tests.{lt-ltb, le-ltb}
-use lib.ListN.{length, take, drop, length-set}
-use lib.Seq.{take_all}
-use Rattle.sheet.specs.Writing.{sheet_of, write_of, written_on}
-use Rattle.sheet.proofs.Bytes.{sheet_length, turn}
-use borrow.Author.Rules.{rules}
-use native.Mathlib.Omega.{arith}
+use lib.ListN.{length, take, drop}
+use Rattle.sheet.specs.Writing.{sheet_of}
 use Rattle.sheet.proofs.write.write.Given as goal
 
 abbrev pub invariant-loop-k : goal.invariant-loop-k
