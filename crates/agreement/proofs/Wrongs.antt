@@ -105,10 +105,10 @@ one_command : (x : ℕ) → T (not (eqb x 0) || not (eqb x 1 || eqb x 2))
 one_command zero = tt
 one_command (suc x) = rw (ne_eqb (suc x) 0 (λ e. omega arith)) tt
 
-weaker : (ro shut own d far : Bool) → T (not ro || (not own && not d)) → T (not ro || (not (shut && own) && not (d && far)))
-weaker false shut own d far t = tt
-weaker true shut true d far t = absurd t
-weaker true shut false true far t = absurd t
+weaker : (ro closed own d far : Bool) → T (not ro || (not own && not d)) → T (not ro || (not (closed && own) && not (d && far)))
+weaker false closed own d far t = tt
+weaker true closed true d far t = absurd t
+weaker true closed false true far t = absurd t
 weaker true true false false far t = tt
 weaker true false false false far t = tt
 

@@ -44,6 +44,7 @@ pub struct Stretch {
 }
 
 // A line with no head.
+#[tactic(auto, unfolding(crate::specs::Calls::empty_of))]
 pub fn empty() -> Line
     ensures { result ≡ empty_of }
 {
@@ -63,6 +64,7 @@ pub fn count(l: Line) -> usize
 
 // Whether the line is one that can be: at most 32 heads, each below the count let pass by its test, no two with one serial number. The serial numbers
 // are gathered on the way, so that each head is read once.
+#[tactic(auto, unfolding(crate::specs::Calls::fits_by))]
 fn fits_by(bringing: bool, l: Line) -> bool
     ensures { result ≡ fits_by bringing l }
 {
@@ -119,6 +121,7 @@ fn head_at(l: Line, i: usize) -> Head
 }
 
 // A head put at a place; at no place, nothing is put.
+#[tactic(auto, unfolding(crate::specs::Calls::placed_of))]
 fn placed(l: Line, i: usize, h: Head) -> Line
     ensures { result ≡ placed_of l i h }
 {
@@ -147,6 +150,7 @@ fn on_line(l: Line, serial: u32) -> bool
 }
 
 // A line grown by a head with a node number and a serial number.
+#[tactic(auto, unfolding(crate::specs::Calls::placed_of, crate::specs::Calls::grow_of))]
 pub fn grow(l: Line, node: u32, serial: u32) -> Called
     ensures { result ≡ grow_of l node serial }
 {
@@ -172,6 +176,7 @@ pub fn grow(l: Line, node: u32, serial: u32) -> Called
 // one byte, so whoever wants them all has to look at it before the next byte is heard. The tests for refusal are made once for all these bytes, and
 // the line is copied once, into `k`, and leaves by one exit; each arm of a turn reads and writes its head in place, so that a byte that ends no
 // telegram, as nine of ten do, writes the bytes gathered and nothing else.
+#[tactic(auto, unfolding(crate::specs::Stretch::until_of, crate::specs::Stretch::until_space_of))]
 pub fn until_reply(l: Line, bytes: &[u8], from: usize, at: u32, space: &mut [u8]) -> Stretch
     ensures value { result ≡ until_of l (drop from bytes.now) from at (length space.old) }
     ensures space_after { space.new ≡ until_space_of l (drop from bytes.now) at space.old }
@@ -235,6 +240,7 @@ pub fn byte(l: Line, b: u8, at: u32, space: &mut [u8]) -> Fed
 }
 
 // A tick for every head.
+#[tactic(auto, unfolding(crate::specs::Calls::tick_of))]
 pub fn tick(l: Line, at: u32) -> Called
     ensures { result ≡ tick_of l at }
 {
@@ -253,6 +259,7 @@ pub fn tick(l: Line, at: u32) -> Called
 }
 
 // A call that names a head: 20, then 3, then what the call made of that head alone, put back in its place, with its answer.
+#[tactic(auto, unfolding(crate::specs::Calls::named_of))]
 fn named(bringing: bool, l: Line, i: usize, c: calls::Called) -> Called
     ensures { result ≡ named_of bringing l i c }
 {
@@ -270,6 +277,7 @@ fn named(bringing: bool, l: Line, i: usize, c: calls::Called) -> Called
 }
 
 // A measurement of one head.
+#[tactic(auto, unfolding(crate::specs::Calls::measure_of))]
 pub fn measure(l: Line, i: usize, m: i32) -> Called
     ensures { result ≡ measure_of l i m }
 {
@@ -286,6 +294,7 @@ fn unfed(l: Line, why: Refusal) -> Fed
 }
 
 // A key state of one head, with lent reply space: 20, then 3, then what the head alone makes of both.
+#[tactic(auto, unfolding(crate::specs::Calls::keys_of, crate::specs::Calls::keys_space_of))]
 pub fn keys(l: Line, i: usize, state: u32, space: &mut [u8]) -> Fed
     ensures value { result ≡ keys_of l i state (length space.old) }
     ensures space_after { space.new ≡ keys_space_of l i state space.old }
@@ -305,6 +314,7 @@ pub fn keys(l: Line, i: usize, state: u32, space: &mut [u8]) -> Fed
 }
 
 // Power off and on at one head.
+#[tactic(auto, unfolding(crate::specs::Calls::power_of))]
 pub fn power(l: Line, i: usize) -> Called
     ensures { result ≡ power_of l i }
 {
@@ -312,6 +322,7 @@ pub fn power(l: Line, i: usize) -> Called
 }
 
 // An older head brought over, whatever other older heads there are.
+#[tactic(auto, unfolding(crate::specs::Calls::bring_of))]
 pub fn bring(l: Line, i: usize) -> Called
     ensures { result ≡ bring_of l i }
 {
@@ -319,6 +330,7 @@ pub fn bring(l: Line, i: usize) -> Called
 }
 
 // What the last damaged telegram that one head heard was hit by.
+#[tactic(auto, unfolding(crate::specs::Calls::last_hit_of))]
 pub fn last_hit(l: Line, i: usize) -> Hit
     ensures { result ≡ last_hit_of l i }
 {
@@ -332,6 +344,7 @@ pub fn last_hit(l: Line, i: usize) -> Hit
 }
 
 // The serial number of one head.
+#[tactic(auto, unfolding(crate::specs::Calls::serial_number_of))]
 pub fn serial_number(l: Line, i: usize) -> Serial
     ensures { result ≡ serial_number_of l i }
 {
@@ -345,6 +358,7 @@ pub fn serial_number(l: Line, i: usize) -> Serial
 }
 
 // A sheet loaded into one head.
+#[tactic(auto, unfolding(crate::specs::Calls::load_of))]
 pub fn load(l: Line, i: usize, sheet: &[u8]) -> Called
     ensures { result ≡ load_of l i sheet.now }
 {
@@ -352,6 +366,7 @@ pub fn load(l: Line, i: usize, sheet: &[u8]) -> Called
 }
 
 // The settings of one head written on a sheet at the start of the space: 20, then 3, then what the head alone writes.
+#[tactic(auto, unfolding(crate::specs::Calls::save_of, crate::specs::Calls::save_space_of))]
 pub fn save(l: Line, i: usize, space: &mut [u8]) -> Answer
     ensures value { result ≡ save_of l i (length space.old) }
     ensures space_after { space.new ≡ save_space_of l i space.old }
