@@ -472,7 +472,7 @@ made_kept node serial =
 
 word_told_lem : (ten : List ℕ) → (fields_of ten).word ≡ get_or ten 3 0 * 256 + get_or ten 4 0
 unfolding fields_of
-word_told_lem ten = refl
+word_told_lem _ = refl
 
 passes_three : wellformed_of (edges.value 23 3) ≡ true
 unfolding computing
