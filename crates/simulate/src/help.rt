@@ -63,7 +63,7 @@ fn answers(rt: &impl Print) -> io::Result<()> {
     );
     let refused = write(
         rt,
-        b"  refused N            1 node number not 1 to 127   4 measurement out of range\n                       2 thirty_third head          5 key state above 7\n                       3 no such head               6 space under ten bytes\n                       10 command above 2 or node above 127\n                       11 sheet malformed           13 value out of its row\n                       12 address not among the 39  14 space under 274 bytes\n                       15 not whole telegrams, or more than 64\n                       16 space from PLACE on shorter than the telegrams\n                       17 serial already on the line\n  error at line N      the line is none of these commands\n",
+        b"  refused N            1 node number not 1 to 127   4 measurement out of range\n                       2 thirty-third head          5 key state above 7\n                       3 no such head               6 space under ten bytes\n                       10 command above 2 or node above 127\n                       11 sheet malformed           13 value out of its row\n                       12 address not among the 39  14 space under 274 bytes\n                       15 not whole telegrams, or more than 64\n                       16 space from PLACE on shorter than the telegrams\n                       17 serial already on the line\n  error at line N      the line is none of these commands\n",
     );
     form.and(done)
         .and(asked)
