@@ -1,5 +1,7 @@
 // A question of the master and the answer of a head: what is sent is read back as it was meant (specs/, proofs/). The functions here do nothing: that
 // they are proved says that whatever question, head or line a program can hand in is held by its types, as the promises ask (specs/Typed; demands/specs/Sheets).
+#![tactic(auto)]
+
 ghost use Rattle.std.specs.Prelude.{◌<◌, ◌≡◌, length};
 ghost use Rattle.wire.specs.Telegram.{Fits};
 ghost use Rattle.line.specs.Calls.{head_at};

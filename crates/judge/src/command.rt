@@ -10,6 +10,7 @@ pub enum Command {
     Other,
 }
 
+#[tactic(auto, unfolding(crate::specs::Commands::command_of))]
 pub fn command_of(b: u8) -> Command
     ensures { result ≡ command_of b }
 {

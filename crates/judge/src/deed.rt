@@ -38,6 +38,7 @@ pub enum Deed {
 }
 
 // A0h.
+#[tactic(auto, unfolding(crate::specs::Deeds::system_of))]
 fn system(value: u32) -> Deed
     ensures { result ≡ system_of value }
 {
@@ -63,6 +64,7 @@ fn ordered_by(o: Order, value: u32) -> Deed
 }
 
 // A write or a broadcast that is obeyed.
+#[tactic(auto, unfolding(crate::specs::Deeds::done_by))]
 fn done_by(k: Kind, value: u32, word: u16) -> Deed
     ensures { result ≡ done_by k value word }
 {
@@ -77,6 +79,7 @@ fn done_by(k: Kind, value: u32, word: u16) -> Deed
 }
 
 // A read that is obeyed.
+#[tactic(auto, unfolding(crate::specs::Deeds::shown_by))]
 fn shown_by(address: u8) -> Deed
     ensures { result ≡ shown_by address }
 {
@@ -88,6 +91,7 @@ fn shown_by(address: u8) -> Deed
 }
 
 // A telegram that is refused does nothing, save for an offer that is refused for its range.
+#[tactic(auto, unfolding(crate::specs::Deeds::refused_by))]
 fn refused_by(f: Fault, address: u8) -> Deed
     ensures { result ≡ refused_by f address }
 {
@@ -98,6 +102,7 @@ fn refused_by(f: Fault, address: u8) -> Deed
     Deed::Nothing
 }
 
+#[tactic(auto, unfolding(crate::specs::Deeds::deed_of))]
 pub fn deed_of(v: Verdict, c: Command, k: Kind, t: Telegram) -> Deed
     ensures { result ≡ deed_of v c k t }
 {

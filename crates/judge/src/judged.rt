@@ -20,6 +20,7 @@ pub struct Judged {
     pub deed: Deed,
 }
 
+#[tactic(auto, unfolding(crate::specs::Judged::judged_of))]
 pub fn judge(ten: [u8; 10], s: Standing) -> Judged
     ensures { result ≡ judged_of ten s }
 {

@@ -40,6 +40,7 @@ fn first(a: Verdict, b: Verdict) -> Verdict
 }
 
 // 1. Damaged: answered only at the number in force, and not a broadcast.
+#[tactic(auto, unfolding(crate::specs::Checks::sum_check))]
 fn check_sum(hit: u8, c: Command, mine: bool) -> Verdict
     ensures { result ≡ sum_check hit c mine }
 {
@@ -53,6 +54,7 @@ fn check_sum(hit: u8, c: Command, mine: bool) -> Verdict
 }
 
 // 2. For another head.
+#[tactic(auto, unfolding(crate::specs::Checks::node_check))]
 fn check_node(c: Command, mine: bool) -> Verdict
     ensures { result ≡ node_check c mine }
 {
@@ -63,6 +65,7 @@ fn check_node(c: Command, mine: bool) -> Verdict
 }
 
 // 3. Command above 02h.
+#[tactic(auto, unfolding(crate::specs::Checks::command_check))]
 fn check_command(c: Command) -> Verdict
     ensures { result ≡ command_check c }
 {
@@ -75,6 +78,7 @@ fn check_command(c: Command) -> Verdict
 }
 
 // 4. Unknown parameter.
+#[tactic(auto, unfolding(crate::specs::Checks::parameter_check))]
 fn check_parameter(a: Access) -> Verdict
     ensures { result ≡ parameter_check a }
 {
@@ -87,6 +91,7 @@ fn check_parameter(a: Access) -> Verdict
 }
 
 // 5. Write to read only, read of write only, broadcast where none is allowed.
+#[tactic(auto, unfolding(crate::specs::Checks::access_check))]
 fn check_access(c: Command, a: Access, castable: bool) -> Verdict
     ensures { result ≡ access_check c a castable }
 {
@@ -115,6 +120,7 @@ fn check_access(c: Command, a: Access, castable: bool) -> Verdict
 }
 
 // What the interlock covers: the 39 and A0h.
+#[tactic(auto, unfolding(crate::specs::Checks::lockable_of))]
 fn lockable(address: u8) -> bool
     ensures { result ≡ lockable_of address }
 {
@@ -125,6 +131,7 @@ fn lockable(address: u8) -> bool
 }
 
 // 6. Locked.
+#[tactic(auto, unfolding(crate::specs::Checks::lock_check))]
 fn check_lock(locked: bool, c: Command, address: u8) -> Verdict
     ensures { result ≡ lock_check locked c address }
 {
@@ -135,6 +142,7 @@ fn check_lock(locked: bool, c: Command, address: u8) -> Verdict
 }
 
 // 6. A number is offered, by D2h, where the number in force is not 31.
+#[tactic(auto, unfolding(crate::specs::Checks::state_check))]
 fn check_state(number: u32, c: Command, address: u8) -> Verdict
     ensures { result ≡ state_check number c address }
 {
@@ -144,6 +152,7 @@ fn check_state(number: u32, c: Command, address: u8) -> Verdict
     Verdict::Obeyed
 }
 
+#[tactic(auto, unfolding(crate::specs::Checks::range_check))]
 fn check_range(g: Range) -> Verdict
     ensures { result ≡ range_check g }
 {
@@ -156,6 +165,7 @@ fn check_range(g: Range) -> Verdict
 }
 
 // 7. The value of a write or a broadcast.
+#[tactic(auto, unfolding(crate::specs::Checks::value_check))]
 fn check_value(c: Command, g: Range) -> Verdict
     ensures { result ≡ value_check c g }
 {
@@ -166,6 +176,7 @@ fn check_value(c: Command, g: Range) -> Verdict
 }
 
 // 7. For 96h, a number above the count.
+#[tactic(auto, unfolding(crate::specs::Checks::number_check))]
 fn check_number(address: u8, number: u8, inputs: u32) -> Verdict
     ensures { result ≡ number_check address number inputs }
 {
@@ -176,6 +187,7 @@ fn check_number(address: u8, number: u8, inputs: u32) -> Verdict
 }
 
 // A refused broadcast is silent.
+#[tactic(auto, unfolding(crate::specs::Checks::hush_of))]
 fn hush(c: Command, v: Verdict) -> Verdict
     ensures { result ≡ hush_of c v }
 {
@@ -190,6 +202,7 @@ fn hush(c: Command, v: Verdict) -> Verdict
 }
 
 // Checks 3 to 7.
+#[tactic(auto, unfolding(crate::specs::Verdicts::late_of))]
 fn late(t: Telegram, s: Standing) -> Verdict
     ensures { result ≡ late_of t s }
 {
@@ -207,6 +220,7 @@ fn late(t: Telegram, s: Standing) -> Verdict
 }
 
 // All seven, of a telegram and the exclusive-or of its ten bytes. The late ones are looked at only where the first two let it pass.
+#[tactic(auto, unfolding(crate::specs::Verdicts::verdict_of))]
 pub fn verdict_of(hit: u8, t: Telegram, s: Standing) -> Verdict
     ensures { result ≡ verdict_of hit t s }
 {

@@ -1,4 +1,6 @@
 // The other end of the wire: command telegrams built of their fields, and replies read against what was asked.
+#![tactic(auto)]
+
 ghost use Rattle.std.specs.Prelude.{◌≡◌, length};
 ghost use Rattle.master.specs.Master.{refusal_of, may_build, built_of, belongs_of, error_of, code_in, meaning_of, reading_of};
 
@@ -53,6 +55,7 @@ fn may_build(question: Telegram) -> bool
 }
 
 // A command telegram of its fields.
+#[tactic(auto, unfolding(crate::specs::Master::built_of))]
 pub fn build(question: Telegram) -> Built
     ensures { result ≡ built_of question }
 {
@@ -94,6 +97,7 @@ fn code(ten: [u8; 10]) -> u16
 }
 
 // Ten bytes as the reply to the question.
+#[tactic(auto, unfolding(crate::specs::Master::meaning_of))]
 fn meaning(question: Telegram, ten: [u8; 10]) -> Reading
     ensures { result ≡ meaning_of question ten }
 {
@@ -115,6 +119,7 @@ fn array(b: &[u8]) -> [u8; 10]
 }
 
 // Bytes, as many as there are, as the reply to the question.
+#[tactic(auto, unfolding(crate::specs::Master::reading_of))]
 pub fn read(question: Telegram, reply: &[u8]) -> Reading
     ensures { result ≡ reading_of question reply.now }
 {

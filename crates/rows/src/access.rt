@@ -10,6 +10,7 @@ pub enum Access {
     Unknown,
 }
 
+#[tactic(auto, unfolding(crate::specs::Access::access_of, crate::specs::Table::rows))]
 pub fn access_of(address: u8) -> Access
     ensures { result ≡ access_of address }
 {
@@ -31,6 +32,7 @@ pub fn access_of(address: u8) -> Access
 }
 
 // Whether the parameter may be broadcast.
+#[tactic(auto, unfolding(crate::specs::Access::broadcast_of))]
 pub fn broadcast(address: u8) -> bool
     ensures { result ≡ broadcast_of address }
 {

@@ -52,6 +52,7 @@ fn error_at(address: u8) -> Kind
 }
 
 // Of an address that is none of the 39.
+#[tactic(auto, unfolding(crate::specs::Kinds::other_of))]
 fn other(address: u8) -> Kind
     ensures { result ≡ other_of address }
 {
@@ -76,6 +77,7 @@ fn other(address: u8) -> Kind
     }
 }
 
+#[tactic(auto, unfolding(crate::specs::Kinds::kind_of))]
 pub fn kind_of(address: u8) -> Kind
     ensures { result ≡ kind_of address }
 {

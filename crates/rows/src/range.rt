@@ -15,6 +15,7 @@ pub enum Range {
 }
 
 // Whether the parameter's data are read as two's complement: 1Eh, 1Fh and FFh.
+#[tactic(auto, unfolding(crate::specs::Ranges::is_signed_of))]
 pub fn is_signed(address: u8) -> bool
     ensures { result ≡ is_signed_of address }
 {
@@ -22,6 +23,7 @@ pub fn is_signed(address: u8) -> bool
 }
 
 // The number that a word of the parameter stands for.
+#[tactic(auto, unfolding(crate::specs::Ranges::reading_of))]
 pub fn reading(address: u8, word: u32) -> i64
     ensures { result ≡ reading_of address word }
 {
@@ -33,6 +35,7 @@ pub fn reading(address: u8, word: u32) -> i64
 }
 
 // Between the limits, and none of the values that the parameter takes.
+#[tactic(auto, unfolding(crate::specs::Ranges::unlisted_of))]
 fn unlisted(address: u8, word: u32) -> bool
     ensures { result ≡ unlisted_of address word }
 {
@@ -45,6 +48,7 @@ fn unlisted(address: u8, word: u32) -> bool
     false
 }
 
+#[tactic(auto, unfolding(crate::specs::Ranges::between_of))]
 fn between(low: i64, high: i64, v: i64, skipped: bool) -> Range
     ensures { result ≡ between_of low high v skipped }
 {
@@ -60,6 +64,7 @@ fn between(low: i64, high: i64, v: i64, skipped: bool) -> Range
     Range::Right
 }
 
+#[tactic(auto, unfolding(crate::specs::Ranges::range_in))]
 fn range_in(row: Row, word: u32) -> Range
     ensures { result ≡ range_in row word }
 {
@@ -69,6 +74,7 @@ fn range_in(row: Row, word: u32) -> Range
 }
 
 // The limits of the parameters that may be written and are not stored.
+#[tactic(auto, unfolding(crate::specs::Ranges::other_row_of))]
 fn other_row(address: u8) -> Row
     ensures { result ≡ other_row_of address }
 {
@@ -84,6 +90,7 @@ fn other_row(address: u8) -> Row
 }
 
 // How a value that is written to the parameter lies to its limits.
+#[tactic(auto, unfolding(crate::specs::Ranges::range_of))]
 pub fn range_of(address: u8, word: u32) -> Range
     ensures { result ≡ range_of address word }
 {
@@ -93,6 +100,7 @@ pub fn range_of(address: u8, word: u32) -> Range
     }
 }
 
+#[tactic(auto, unfolding(crate::specs::Ranges::fits_in))]
 fn fits(row: Row, word: u32) -> bool
     ensures { result ≡ fits_in row word }
 {

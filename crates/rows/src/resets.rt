@@ -13,6 +13,7 @@ pub fn bus(i: usize) -> bool
 }
 
 // Whether the system command touches the place: 1 all, 2 all but the bus six, 5 the bus six.
+#[tactic(auto, unfolding(crate::specs::Resets::resets_of))]
 pub fn resets(command: u32, i: usize) -> bool
     ensures { result ≡ resets_of command i }
 {

@@ -93,6 +93,7 @@ const ROW_D0: Row = Row(0xD0, 0, 20, 0);
 
 // The row at a place; past the table, a row of nothing. A caller that names the place gets the numbers as constants, where an array would be
 // laid out anew at each use.
+#[tactic(auto, unfolding(crate::specs::Table::row_of, crate::specs::Table::rows))]
 pub fn row_of(i: usize) -> Row
     ensures { result ≡ row_of i }
 {
@@ -141,6 +142,7 @@ pub fn row_of(i: usize) -> Row
 }
 
 // The place of a stored parameter: its address, less the addresses before it that have no place.
+#[tactic(auto, unfolding(crate::specs::Table::place_of, crate::specs::Table::rows))]
 pub fn place_of(address: u8) -> Place
     ensures { result ≡ place_of address }
 {

@@ -54,6 +54,3 @@ turn d i [] s p q = absurd (not-suc-le-zero p)
 turn d i (a ∷ x) [] p q = absurd (not-suc-le-zero q)
 turn d zero (a ∷ x) (y ∷ s) p q = refl
 turn d (suc i) (a ∷ x) (y ∷ s) p q = rw (turn d i x s (le_of_suc-le-suc p) (le_of_suc-le-suc q))
-
-pub three : (m : ℕ) → m < 4 → (m ≡ 0 → ⊥) → (m ≡ 1 → ⊥) → (m ≡ 2 → ⊥) → m ≡ 3
-three m h n0 n1 n2 = omega arith

@@ -1,21 +1,14 @@
--- A test of each number below n: the turn and the end of the loop that makes it, what follows from it, and what it follows from.
+-- A test of each number below n: what follows from it, and what it follows from.
 -- Assumes nothing.
-use Prim.Native.Nat.{ℕ, zero, suc, ◌+◌, ◌≤◌, ◌<◌}
+use Prim.Native.Nat.{ℕ, zero, suc, ◌+◌, ◌<◌}
 use mathlib.Core.Path.{◌≡◌, refl}
 use mathlib.Core.Bool.{Bool, true, false, ◌&&◌, and-eq-true_iff}
 use mathlib.Core.Logic.{◌⊎◌, inl, inr, ⊎_elim}
-use native.Mathlib.Numerals.{add-one}
 use native.Mathlib.Nat.{not-suc-le-zero}
 use native.Mathlib.Omega.{arith}
 use lib.Dec.{eqb}
 use borrow.Author.Tests.{eqb-true, eqb-false}
 use Rattle.sheet.specs.Each.{each}
-
-pub next : (test : ℕ → Bool) (i : ℕ) {ok here : Bool} → ok ≡ each test i → here ≡ test i → (ok && here) ≡ each test (i + 1)
-next test i e h = rw (add-one, e, h)
-
-pub ended : (test : ℕ → Bool) (i n : ℕ) {ok : Bool} → i ≤ n → n ≤ i → ok ≡ each test i → ok ≡ each test n
-ended test i n p q e = let s : i ≡ n = omega arith in rw s at e
 
 -- the last of the numbers below suc n, or one before it
 pub last : (i n : ℕ) → i < suc n → (i ≡ n) ⊎ (i < n)

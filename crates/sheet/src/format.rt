@@ -36,6 +36,7 @@ pub(crate) fn body_at(sheet: &[u8], i: u8) -> u16
 }
 
 // The value in the body of row i.
+#[tactic(auto, unfolding(crate::specs::Format::value_of))]
 pub(crate) fn value_at(sheet: &[u8], i: u8) -> u32
     ensures { result ≡ value_of sheet.now i }
 {
@@ -49,6 +50,7 @@ pub(crate) fn value_at(sheet: &[u8], i: u8) -> u32
 }
 
 // The address of row i is above that of the row before it.
+#[tactic(auto, unfolding(crate::specs::Format::rises))]
 fn is_rising(sheet: &[u8], i: u8) -> bool
     ensures { result ≡ rises sheet.now i }
 {
@@ -59,6 +61,7 @@ fn is_rising(sheet: &[u8], i: u8) -> bool
 }
 
 // Row i of n stands as it must.
+#[tactic(auto, unfolding(crate::specs::Format::row_right))]
 fn row_right(sheet: &[u8], n: u8, i: u8) -> bool
     ensures { result ≡ row_right sheet.now n i }
 {

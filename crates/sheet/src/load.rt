@@ -13,6 +13,7 @@ use rows::{range, table};
 const INCREMENTAL: u8 = 0x35;
 
 // The value that row i writes: 35h at 1, as the sheets of older heads may have it, is a write of 0.
+#[tactic(auto, unfolding(crate::specs::Loading::meant_of))]
 fn meant(sheet: &[u8], i: u8) -> u32
     ensures { result ≡ meant_at sheet.now i }
 {
@@ -24,6 +25,7 @@ fn meant(sheet: &[u8], i: u8) -> u32
 }
 
 // The address of row i is among the 39.
+#[tactic(auto, unfolding(crate::specs::Loading::known_of))]
 fn known(sheet: &[u8], i: u8) -> bool
     ensures { result ≡ known_of sheet.now i }
 {
@@ -34,6 +36,7 @@ fn known(sheet: &[u8], i: u8) -> bool
 }
 
 // What row i writes lies in the row of its address.
+#[tactic(auto, unfolding(crate::specs::Loading::fitting_of))]
 fn fitting(sheet: &[u8], i: u8) -> bool
     ensures { result ≡ fitting_of sheet.now i }
 {
@@ -71,6 +74,7 @@ fn all_fitting(sheet: &[u8], n: u8) -> bool
 }
 
 // Whether the sheet may be loaded: 11, 12 and 13, in this order.
+#[tactic(auto, unfolding(crate::specs::Loading::check_of))]
 pub fn check(sheet: &[u8]) -> Answer
     ensures { result ≡ check_of sheet.now }
 {
@@ -114,6 +118,7 @@ pub struct Loaded {
 }
 
 // The sheet loaded, all or nothing.
+#[tactic(auto, unfolding(crate::specs::Loading::load_of))]
 pub fn load(values: [u32; 39], sheet: &[u8]) -> Loaded
     ensures { result ≡ load_of values sheet.now }
 {

@@ -23,6 +23,7 @@ pub enum Reading {
 }
 
 // Row `row` of the sheet.
+#[tactic(auto, unfolding(crate::specs::Format::read_of))]
 pub(crate) fn row_of(sheet: &[u8], row: u8) -> Reading
     ensures { result ≡ read_of sheet.now row }
 {

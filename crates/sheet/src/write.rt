@@ -59,6 +59,7 @@ fn sheet_byte(values: [u32; 39], k: usize) -> u8
 }
 
 // The sheet laid at the start of the space, which is left as it is if it is too short.
+#[tactic(auto, unfolding(crate::specs::Writing::write_of, crate::specs::Writing::written_on))]
 pub fn write(values: [u32; 39], space: &mut [u8]) -> Answer
     ensures value { result ≡ write_of (length space.old) }
     ensures space_after { space.new ≡ written_on values space.old }

@@ -1,7 +1,7 @@
 -- Numbers with a sign by their sizes, which `omega` reads: what a test against 0 tells, and the size of a sum.
 -- Assumes nothing.
 use Prim.Native.Nat.{ℕ, zero, suc, ◌+◌, ◌≤◌, ◌<◌}
-use mathlib.Core.Path.{◌≡◌, refl, ap}
+use mathlib.Core.Path.{◌≡◌, refl}
 use mathlib.Core.Logic.{◌⊎◌, inl, inr, ⊎_elim}
 use mathlib.Core.Bool.{Bool, true, false, true≢false}
 use native.Mathlib.Omega.{arith}
@@ -18,19 +18,10 @@ less_or_not a b = go (ltb a b) refl
     go true e = inl (ltb-true a b e)
     go false e = inr (ltb-false a b e)
 
--- a number below 0, and one that is not: `mag` is the size of the one less 1, and of the other the size
-pub below : (v : ℤ) → lt_z v (pos 0) ≡ true → v ≡ negsuc (mag v)
-below (pos n) e = absurd (omega (arith, ltb-true n 0 e))
-below (negsuc n) e = refl
-
+-- a number that is not below 0: `mag` is its size
 pub above : (v : ℤ) → lt_z v (pos 0) ≡ false → v ≡ pos (mag v)
 above (pos n) e = refl
 above (negsuc n) e = absurd (true≢false e)
-
--- -1 - v, of a number below 0
-pub turned : (v : ℤ) → lt_z v (pos 0) ≡ true → negsuc 0 -ℤ v ≡ pos (mag v)
-turned (pos n) e = absurd (omega (arith, ltb-true n 0 e))
-turned (negsuc n) e = simp (le-ltb (suc n) 1 (omega arith)) (ap pos (omega arith))
 
 -- a number is its size with its sign
 pub minus_size : (z : ℤ) → lt_z z (pos 0) ≡ true → minus (nat_abs z) ≡ z

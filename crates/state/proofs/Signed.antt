@@ -9,4 +9,4 @@ use mir.Val.{to_z, of_z}
 use mir.Facts.{to_z-of_z}
 
 pub back32 : (z : ℤ) → mag z < 2147483648 → to_z w32 (of_z w32 z) ≡ z
-back32 z h = to_z-of_z (record { sfits = h })
+back32 z h = to_z-of_z {w = w32} (record { sfits = h })

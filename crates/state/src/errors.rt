@@ -4,6 +4,7 @@ ghost use Rattle.state.specs.Errors.{empty_list, remembered_of, entry_of};
 
 use crate::parts::ErrorList;
 
+#[tactic(auto, unfolding(crate::specs::Errors::empty_list))]
 pub fn empty_list() -> ErrorList
     ensures { result ≡ empty_list }
 {
@@ -14,6 +15,7 @@ pub fn empty_list() -> ErrorList
 }
 
 // The list with a code at its end; a full list drops its oldest.
+#[tactic(auto, unfolding(crate::specs::Errors::remembered_of))]
 pub fn remembered(list: ErrorList, code: u16) -> ErrorList
     ensures { result ≡ remembered_of list code }
 {
@@ -36,6 +38,7 @@ pub fn remembered(list: ErrorList, code: u16) -> ErrorList
 }
 
 // The code at a place, 0 for the oldest; an empty place reads 0, whatever it holds.
+#[tactic(auto, unfolding(crate::specs::Errors::entry_of))]
 pub fn entry(list: ErrorList, i: usize) -> u16
     ensures { result ≡ entry_of list i }
 {

@@ -6,6 +6,7 @@ ghost use Rattle.state.specs.Mode.{is_display};
 const DISPLAY: u32 = 3;
 
 // Whether this value of 28h is alpha-numeric display.
+#[tactic(auto, unfolding(crate::specs::Mode::is_display))]
 pub fn is_display(mode: u32) -> bool
     ensures { result ≡ is_display mode }
 {

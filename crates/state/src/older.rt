@@ -6,6 +6,7 @@ use crate::parts::{Head, Setting};
 use crate::wellformed;
 
 // Whether a head is an older one: 35h above 0, or incremental still on.
+#[tactic(auto, unfolding(crate::specs::Older::is_older))]
 fn is_older(h: Head) -> bool
     ensures { result ≡ is_older h }
 {
@@ -16,6 +17,7 @@ fn is_older(h: Head) -> bool
 }
 
 // The head with 35h 0, incremental off and this start of it.
+#[tactic(auto, unfolding(crate::specs::Older::retired_of))]
 fn retired(start: i32, h: Head) -> Head
     ensures { result ≡ retired_of start h }
 {
@@ -31,6 +33,7 @@ fn retired(start: i32, h: Head) -> Head
 }
 
 // The old test of refusal 20: 35h may be 1 and incremental on.
+#[tactic(auto, unfolding(crate::specs::Older::older_fits))]
 fn fits(h: Head) -> bool
     ensures { result ≡ older_fits h }
 {
@@ -52,6 +55,7 @@ pub fn passes(bringing: bool, h: Head) -> bool
 }
 
 // The head brought over; one that is no older head is as it was.
+#[tactic(auto, unfolding(crate::specs::Older::brought_of))]
 pub fn brought(h: Head) -> Head
     ensures { result ≡ brought_of h }
 {

@@ -12,6 +12,7 @@ pub struct Readout {
     pub shown: i64,
 }
 
+#[tactic(auto, unfolding(crate::specs::Position::position_of))]
 pub fn position(m: Measurement, offset: u32) -> i64
     ensures { result ≡ position_of m offset }
 {
@@ -19,6 +20,7 @@ pub fn position(m: Measurement, offset: u32) -> i64
 }
 
 // A: the position divided, where 33h is 0 or 1.
+#[tactic(auto, unfolding(crate::specs::Position::actual_of))]
 fn actual(p: i64, divisor: u32, application: u32) -> i64
     ensures { result ≡ actual_of p divisor application }
 {
@@ -29,6 +31,7 @@ fn actual(p: i64, divisor: u32, application: u32) -> i64
 }
 
 // What FEh shows: A where 33h is 0, else the position.
+#[tactic(auto, unfolding(crate::specs::Position::shown_of))]
 fn shown(p: i64, a: i64, application: u32) -> i64
     ensures { result ≡ shown_of p a application }
 {
@@ -38,6 +41,7 @@ fn shown(p: i64, a: i64, application: u32) -> i64
     p
 }
 
+#[tactic(auto, unfolding(crate::specs::Position::view_of))]
 pub fn view(values: [u32; 39], m: Measurement) -> Readout
     ensures { result ≡ view_of values m }
 {

@@ -23,6 +23,7 @@ fn clockwise(below: bool, above: bool, turned: bool) -> bool
     if turned { above } else { below }
 }
 
+#[tactic(auto, unfolding(crate::specs::Status::aim_of))]
 pub fn aim(values: [u32; 39], a: i64, s: i64) -> Bearing
     ensures { result ≡ aim_of values a s }
 {
@@ -44,6 +45,7 @@ fn bit(n: u32, on: bool) -> u16
 }
 
 // Bits 0, 1, 3, 5 and 6: only with bit 10.
+#[tactic(auto, unfolding(crate::specs::Status::aim_bits_of))]
 fn aim_bits(valid: bool, m: Bearing) -> u16
     ensures { (result ≡ aim_bits_of valid m) × (result ≤ 107) }
 {
@@ -56,6 +58,7 @@ fn aim_bits(valid: bool, m: Bearing) -> u16
 }
 
 // The bits that are the same in every mode.
+#[tactic(auto, unfolding(crate::specs::Status::rest_bits_of))]
 fn rest_bits(t: Targets, pending: bool, frozen: bool, keys: u32) -> u16
     ensures { (result ≡ rest_bits_of t pending frozen keys) × (result ≤ 58756) }
 {
@@ -74,6 +77,7 @@ fn characters(word: u16) -> bool
 }
 
 // Bits 3, 5 and 9 in alpha-numeric display.
+#[tactic(auto, unfolding(crate::specs::Status::display_bits_of))]
 fn display_bits(t: Targets) -> u16
     ensures { (result ≡ display_bits_of t) × (result ≤ 552) }
 {
@@ -84,6 +88,7 @@ fn display_bits(t: Targets) -> u16
 }
 
 // How A lies to S, set point 2, valid or not.
+#[tactic(auto, unfolding(crate::specs::Status::aimed_of))]
 fn aimed(values: [u32; 39], m: Measurement, t: Targets) -> Bearing
     ensures { result ≡ aimed_of values m t }
 {
@@ -91,6 +96,7 @@ fn aimed(values: [u32; 39], m: Measurement, t: Targets) -> Bearing
     aim(values, w.actual, signed::number(t.second))
 }
 
+#[tactic(auto, unfolding(crate::specs::Status::status_of))]
 pub fn status(h: Head) -> u16
     ensures { result ≡ status_of h }
 {
@@ -108,6 +114,7 @@ pub fn status(h: Head) -> u16
 }
 
 // What sets the static bit: set point 2 is valid and A within window 1, and never in alpha-numeric display.
+#[tactic(auto, unfolding(crate::specs::Status::within_of))]
 pub fn within(values: [u32; 39], m: Measurement, t: Targets) -> bool
     ensures { result ≡ within_of values m t }
 {
@@ -117,6 +124,7 @@ pub fn within(values: [u32; 39], m: Measurement, t: Targets) -> bool
 }
 
 // The differential value for the set point s.
+#[tactic(auto, unfolding(crate::specs::Status::difference_of))]
 pub fn difference(values: [u32; 39], m: Measurement, s: u32) -> i64
     ensures { result ≡ difference_of values m s }
 {

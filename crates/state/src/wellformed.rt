@@ -5,6 +5,7 @@ ghost use Rattle.state.specs.Wellformed.{in_reach_of, offer_fits, stored_fits, f
 use crate::parts::{Ear, Faults, Head, Measurement, Stored};
 
 // A measurement lies in -2,500,000..2,500,000.
+#[tactic(auto, unfolding(crate::specs::Wellformed::in_reach_of))]
 pub fn in_reach(m: i32) -> bool
     ensures { result ≡ in_reach_of m }
 {
@@ -12,12 +13,14 @@ pub fn in_reach(m: i32) -> bool
 }
 
 // A number that is offered is 1 to 31, and the number in force is 31.
+#[tactic(auto, unfolding(crate::specs::Wellformed::offer_fits))]
 fn offer(number: u32, offered: u32) -> bool
     ensures { result ≡ offer_fits number offered }
 {
     (offered == 0) | ((offered <= 31) & (number == 31))
 }
 
+#[tactic(auto, unfolding(crate::specs::Wellformed::stored_fits))]
 fn stored(s: Stored) -> bool
     ensures { result ≡ stored_fits s }
 {
@@ -25,6 +28,7 @@ fn stored(s: Stored) -> bool
     rows::range::all_right(v) & (rows::range::fits_at(0, s.number) & offer(s.number, s.offer))
 }
 
+#[tactic(auto, unfolding(crate::specs::Wellformed::faults_fit))]
 fn faults(f: Faults) -> bool
     ensures { result ≡ faults_fit f }
 {
@@ -33,12 +37,14 @@ fn faults(f: Faults) -> bool
     (m.count <= 10) & ((i.count <= 10) & (f.damaged <= 2))
 }
 
+#[tactic(auto, unfolding(crate::specs::Wellformed::kept_fits))]
 fn kept(v: i64) -> bool
     ensures { result ≡ kept_fits v }
 {
     signed::size(v) <= 5242880
 }
 
+#[tactic(auto, unfolding(crate::specs::Wellformed::measurement_fits))]
 fn measurement(m: Measurement) -> bool
     ensures { result ≡ measurement_fits m }
 {
@@ -47,12 +53,14 @@ fn measurement(m: Measurement) -> bool
         & (in_reach(m.m) & (in_reach(m.zero) & (in_reach(m.start) & (adopted & kept(m.kept)))))
 }
 
+#[tactic(auto, unfolding(crate::specs::Wellformed::ear_fits))]
 fn ear(e: Ear) -> bool
     ensures { result ≡ ear_fits e }
 {
     e.count <= 9
 }
 
+#[tactic(auto, unfolding(crate::specs::Wellformed::wellformed_of))]
 pub fn wellformed(h: Head) -> bool
     ensures { result ≡ wellformed_of h }
 {
