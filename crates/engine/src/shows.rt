@@ -74,6 +74,7 @@ pub(crate) fn input_error(t: Telegram, h: Head) -> u32
 }
 
 // The answer to a write of FFh, by 03h: the set point, the current value, or the differential value.
+#[tactic(auto, unfolding(crate::specs::Addresses::place, crate::specs::Addresses::the39))]
 pub(crate) fn response(t: Telegram, h: Head) -> u32
     ensures { result ≡ response t h }
 {
