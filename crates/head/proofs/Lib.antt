@@ -1,5 +1,4 @@
 pub mod Nodes
-pub mod Rest
 pub mod Sheets
 pub mod Keeps
 pub mod Tests

@@ -8,7 +8,7 @@ use Rattle.wire.specs.Telegram.{fields_of}
 use Rattle.wire.specs.declared.fault.Fault.{Fault}
 use Rattle.judge.specs.declared.judged.Judged.{Judged}
 use Rattle.judge.specs.declared.verdict.Verdict.{Verdict}
-use Rattle.judge.specs.declared.verdict.Verdict.TheVariants.{Silent, Refused}
+use Rattle.judge.specs.declared.verdict.Verdict.TheVariants.{Silent, Obeyed, Refused}
 use Rattle.judge.specs.declared.deed.Deed.TheVariants.{Nothing, Withdraw}
 use Rattle.judge.specs.Judged.{judged_as, judged_of}
 use Rattle.judge.specs.Verdicts.{verdict_of}
@@ -92,6 +92,7 @@ unheeded_only h ten at u =
   where
     quiet : (v : Verdict) → Unheeded v → (judged_as (fields_of ten) ten v).deed ≡ cond (drops v (fields_of ten).parameter) Withdraw Nothing
     quiet Silent silent = refl
+    quiet Obeyed u = elim u [ ]
     quiet (Refused f) refused = refl
 
 -- ---- 20 never comes for a well-formed head

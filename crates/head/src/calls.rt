@@ -52,6 +52,7 @@ pub enum Serial {
 }
 
 // The head as the factory delivers it, at 31.
+#[tactic(auto, unfolding(crate::specs::Calls::factory_of))]
 pub fn factory(serial: u32) -> Head
     ensures { result ≡ factory_of serial }
 {
@@ -59,6 +60,7 @@ pub fn factory(serial: u32) -> Head
 }
 
 // Whether a number may be a node number.
+#[tactic(auto, unfolding(crate::specs::Calls::node_fits))]
 pub fn node_fits(node: u32) -> bool
     ensures { result ≡ node_fits node }
 {
@@ -66,6 +68,7 @@ pub fn node_fits(node: u32) -> bool
 }
 
 // A head with a node number and a serial number.
+#[tactic(auto, unfolding(crate::specs::Calls::made_of))]
 pub fn make(node: u32, serial: u32) -> Called
     ensures { result ≡ made_of node serial }
 {
@@ -82,6 +85,7 @@ pub fn make(node: u32, serial: u32) -> Called
 }
 
 // A reply at the start of the space.
+#[tactic(auto, unfolding(crate::specs::Calls::laid_on_of))]
 pub fn lay(space: &mut [u8], x: [u8; 10])
     ensures { space.new ≡ laid_on_of space.old x }
 {
@@ -125,6 +129,7 @@ fn unfed(h: Head, why: Refusal) -> Fed
 }
 
 // A byte, with lent reply space.
+#[tactic(auto, unfolding(crate::specs::Calls::byte_of, crate::specs::Calls::byte_space_of))]
 pub fn byte(h: Head, b: u8, at: u32, space: &mut [u8]) -> Fed
     ensures value { result ≡ byte_of h b at (length space.old) }
     ensures space_after { space.new ≡ byte_space_of h b at space.old }
@@ -156,6 +161,7 @@ fn refused(h: Head, why: Refusal) -> Called
     }
 }
 
+#[tactic(auto, unfolding(crate::specs::Calls::tick_of))]
 pub fn tick(h: Head, at: u32) -> Called
     ensures { result ≡ tick_of h at }
 {
@@ -165,6 +171,7 @@ pub fn tick(h: Head, at: u32) -> Called
     refused(h, Refusal::Malformed)
 }
 
+#[tactic(auto, unfolding(crate::specs::Calls::measure_of))]
 pub fn measure(h: Head, m: i32) -> Called
     ensures { result ≡ measure_of h m }
 {
@@ -178,6 +185,7 @@ pub fn measure(h: Head, m: i32) -> Called
 }
 
 // A key state, with lent reply space: a head that adopts a number says so.
+#[tactic(auto, unfolding(crate::specs::Calls::keys_of, crate::specs::Calls::keys_space_of))]
 pub fn keys(h: Head, state: u32, space: &mut [u8]) -> Fed
     ensures value { result ≡ keys_of h state (length space.old) }
     ensures space_after { space.new ≡ keys_space_of h state space.old }
@@ -194,6 +202,7 @@ pub fn keys(h: Head, state: u32, space: &mut [u8]) -> Fed
     unfed(h, Refusal::Malformed)
 }
 
+#[tactic(auto, unfolding(crate::specs::Calls::power_of))]
 pub fn power(h: Head) -> Called
     ensures { result ≡ power_of h }
 {
@@ -205,6 +214,7 @@ pub fn power(h: Head) -> Called
 
 // An older head brought over: 35h 0, incremental measurement off, its absolute position, and all else as it was. Every other call that looks for
 // refusal 20 refuses it.
+#[tactic(auto, unfolding(crate::specs::Calls::bring_of))]
 pub fn bring(h: Head) -> Called
     ensures { result ≡ bring_of h }
 {
@@ -215,6 +225,7 @@ pub fn bring(h: Head) -> Called
 }
 
 // What the last damaged telegram was hit by; whoever asks changes nothing.
+#[tactic(auto, unfolding(crate::specs::Calls::last_hit_of))]
 pub fn last_hit(h: Head) -> Hit
     ensures { result ≡ last_hit_of h }
 {
@@ -226,6 +237,7 @@ pub fn last_hit(h: Head) -> Hit
 }
 
 // The serial number; whoever asks changes nothing.
+#[tactic(auto, unfolding(crate::specs::Calls::serial_number_of))]
 pub fn serial_number(h: Head) -> Serial
     ensures { result ≡ serial_number_of h }
 {
@@ -248,6 +260,7 @@ fn told(a: sheet::refusal::Answer) -> Answer
 
 // A sheet loaded, all or nothing, whatever the interlock: the values that it names, and nothing else of the head, but that alpha-numeric display may
 // be entered or left.
+#[tactic(auto, unfolding(crate::specs::Calls::load_of))]
 pub fn load(h: Head, sheet: &[u8]) -> Called
     ensures { result ≡ load_of h sheet.now }
 {
@@ -270,6 +283,7 @@ pub fn load(h: Head, sheet: &[u8]) -> Called
 }
 
 // The head's settings written on a sheet at the start of the space; whoever saves changes no head.
+#[tactic(auto, unfolding(crate::specs::Calls::save_of, crate::specs::Calls::save_space_of))]
 pub fn save(h: Head, space: &mut [u8]) -> Answer
     ensures value { result ≡ save_of h (length space.old) }
     ensures space_after { space.new ≡ save_space_of h space.old }

@@ -10,6 +10,7 @@ use judge::verdict::Standing;
 use state::parts::{Ear, Head, Monitor, Setting};
 
 // The time between two readings of a millisecond clock that starts again at 0 after 4,294,967,295.
+#[tactic(auto, unfolding(crate::specs::Hear::elapsed_of))]
 pub fn elapsed(now: u32, then: u32) -> u32
     ensures { result ≡ elapsed_of now then }
 {
@@ -17,6 +18,7 @@ pub fn elapsed(now: u32, then: u32) -> u32
 }
 
 // What is still gathered when a byte comes: nothing after more than 10 ms.
+#[tactic(auto, unfolding(crate::specs::Hear::kept_ear))]
 fn kept(e: Ear, at: u32) -> Ear
     ensures { result ≡ kept_ear e at }
 {
@@ -35,6 +37,7 @@ pub struct Gathered {
     pub ten: [u8; 10],
 }
 
+#[tactic(auto, unfolding(crate::specs::Hear::gathered_of))]
 pub fn gather(ear: Ear, b: u8, at: u32) -> Gathered
     ensures { result ≡ gathered_of ear b at }
 {
@@ -61,6 +64,7 @@ pub fn gather(ear: Ear, b: u8, at: u32) -> Gathered
 }
 
 // What the checks ask of a head.
+#[tactic(auto, unfolding(crate::specs::Hear::standing_of))]
 pub fn standing(h: Head) -> Standing
     ensures { result ≡ standing_of h }
 {
@@ -74,6 +78,7 @@ pub fn standing(h: Head) -> Standing
     }
 }
 
+#[tactic(auto, unfolding(crate::specs::Hear::restarts_of))]
 fn restarts(d: Deed) -> bool
     ensures { result ≡ restarts_of d }
 {
@@ -81,6 +86,7 @@ fn restarts(d: Deed) -> bool
 }
 
 // A sound telegram, for whomever, starts the monitor.
+#[tactic(auto, unfolding(crate::specs::Hear::started_of))]
 fn started(hit: u8, at: u32, m: Monitor) -> Monitor
     ensures { result ≡ started_of hit at m }
 {
@@ -121,6 +127,7 @@ fn affected(j: Judged, h: Head, at: u32) -> Head
 }
 
 // A0h 9 restarts the head after them.
+#[tactic(auto, unfolding(crate::specs::Hear::told_of))]
 fn told(j: Judged, h: Head, at: u32) -> Head
     ensures { result ≡ told_of j h at }
 {
@@ -142,6 +149,7 @@ pub struct Stepped {
 }
 
 // Whether ten bytes are a sound telegram for another node.
+#[tactic(auto, unfolding(crate::specs::Hear::passes_of))]
 fn passes(ten: [u8; 10], number: u32) -> bool
     ensures { result ≡ passes_of ten number }
 {
@@ -149,6 +157,7 @@ fn passes(ten: [u8; 10], number: u32) -> bool
 }
 
 // The head after such a telegram.
+#[tactic(auto, unfolding(crate::specs::Hear::passed_of))]
 fn passed(h: Head, at: u32) -> Head
     ensures { result ≡ passed_of h at }
 {
@@ -160,6 +169,7 @@ fn passed(h: Head, at: u32) -> Head
 }
 
 // A whole telegram: the head after it, and the reply. Most telegrams that a head hears are sound and for another node: they go the short way.
+#[tactic(auto, unfolding(crate::specs::Hear::tell_of))]
 pub fn tell(h: Head, ten: [u8; 10], at: u32) -> Stepped
     ensures { result ≡ tell_of h ten at }
 {
@@ -184,6 +194,7 @@ pub fn tell(h: Head, ten: [u8; 10], at: u32) -> Stepped
 }
 
 // A byte.
+#[tactic(auto, unfolding(crate::specs::Hear::step_of))]
 pub fn step(h: Head, b: u8, at: u32) -> Stepped
     ensures { result ≡ step_of h b at }
 {

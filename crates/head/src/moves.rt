@@ -10,6 +10,7 @@ use state::{mode, status};
 use wire::fault::Fault;
 
 // Whether the bus timeout has run out: 02h above 0 and at least 100 times 02h ms.
+#[tactic(auto, unfolding(crate::specs::Moves::overdue_of))]
 fn overdue(timeout: u32, elapsed: u32) -> bool
     ensures { result ≡ overdue_of timeout elapsed }
 {
@@ -17,6 +18,7 @@ fn overdue(timeout: u32, elapsed: u32) -> bool
 }
 
 // A tick raises the timeout once, and stops the monitor.
+#[tactic(auto, unfolding(crate::specs::Moves::ticked_of))]
 pub fn ticked(h: Head, at: u32) -> Head
     ensures { result ≡ ticked_of h at }
 {
@@ -34,6 +36,7 @@ pub fn ticked(h: Head, at: u32) -> Head
 }
 
 // A measurement; the static bit is set where A is within window 1 after it, and never in alpha-numeric display.
+#[tactic(auto, unfolding(crate::specs::Moves::measured_of))]
 pub fn measured(h: Head, m: i32) -> Head
     ensures { result ≡ measured_of h m }
 {
@@ -54,6 +57,7 @@ const STAR: u32 = 2;
 const UP: u32 = 4;
 
 // The key of this weight is down now and was not before.
+#[tactic(auto, unfolding(crate::specs::Moves::pressed_of))]
 fn pressed(keys: u32, before: u32, weight: u32) -> bool
     requires { 0 < weight }
     ensures { result ≡ pressed_of keys before weight }
@@ -63,6 +67,7 @@ fn pressed(keys: u32, before: u32, weight: u32) -> bool
 
 // Left, where it is newly pressed, acknowledges a pending error; else, in alpha-numeric display, all valid set points where one lacks it; else it
 // calibrates if 05h is 1.
+#[tactic(auto, unfolding(crate::specs::Moves::left_of))]
 fn left(on: bool, h: Head) -> Head
     ensures { result ≡ left_of on h }
 {
@@ -91,6 +96,7 @@ fn left(on: bool, h: Head) -> Head
 }
 
 // Star, where it is newly pressed, acknowledges all valid set points, in alpha-numeric display with 3Eh 2.
+#[tactic(auto, unfolding(crate::specs::Moves::star_of))]
 fn star(on: bool, h: Head) -> Head
     ensures { result ≡ star_of on h }
 {
@@ -106,6 +112,7 @@ fn star(on: bool, h: Head) -> Head
 
 // A key state: left is taken before star, and star before up, each when newly pressed. Where a number is offered, up adopts it: the head says
 // so with the status word of before, and restarts. Else up does nothing.
+#[tactic(auto, unfolding(crate::specs::Moves::keyed_of))]
 pub fn keyed(h: Head, keys: u32) -> Stepped
     ensures { result ≡ keyed_of h keys }
 {

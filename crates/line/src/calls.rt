@@ -44,6 +44,7 @@ pub struct Stretch {
 }
 
 // A line with no head.
+#[tactic(auto, unfolding(crate::specs::Calls::empty_of))]
 pub fn empty() -> Line
     ensures { result ≡ empty_of }
 {
@@ -119,6 +120,7 @@ fn head_at(l: Line, i: usize) -> Head
 }
 
 // A head put at a place; at no place, nothing is put.
+#[tactic(auto, unfolding(crate::specs::Calls::placed_of))]
 fn placed(l: Line, i: usize, h: Head) -> Line
     ensures { result ≡ placed_of l i h }
 {
@@ -147,6 +149,7 @@ fn on_line(l: Line, serial: u32) -> bool
 }
 
 // A line grown by a head with a node number and a serial number.
+#[tactic(auto, unfolding(crate::specs::Calls::placed_of, crate::specs::Calls::grow_of))]
 pub fn grow(l: Line, node: u32, serial: u32) -> Called
     ensures { result ≡ grow_of l node serial }
 {
@@ -235,6 +238,7 @@ pub fn byte(l: Line, b: u8, at: u32, space: &mut [u8]) -> Fed
 }
 
 // A tick for every head.
+#[tactic(auto, unfolding(crate::specs::Calls::tick_of))]
 pub fn tick(l: Line, at: u32) -> Called
     ensures { result ≡ tick_of l at }
 {
@@ -253,6 +257,7 @@ pub fn tick(l: Line, at: u32) -> Called
 }
 
 // A call that names a head: 20, then 3, then what the call made of that head alone, put back in its place, with its answer.
+#[tactic(auto, unfolding(crate::specs::Calls::named_of))]
 fn named(bringing: bool, l: Line, i: usize, c: calls::Called) -> Called
     ensures { result ≡ named_of bringing l i c }
 {
@@ -270,6 +275,7 @@ fn named(bringing: bool, l: Line, i: usize, c: calls::Called) -> Called
 }
 
 // A measurement of one head.
+#[tactic(auto, unfolding(crate::specs::Calls::measure_of))]
 pub fn measure(l: Line, i: usize, m: i32) -> Called
     ensures { result ≡ measure_of l i m }
 {
@@ -286,6 +292,7 @@ fn unfed(l: Line, why: Refusal) -> Fed
 }
 
 // A key state of one head, with lent reply space: 20, then 3, then what the head alone makes of both.
+#[tactic(auto, unfolding(crate::specs::Calls::keys_of, crate::specs::Calls::keys_space_of))]
 pub fn keys(l: Line, i: usize, state: u32, space: &mut [u8]) -> Fed
     ensures value { result ≡ keys_of l i state (length space.old) }
     ensures space_after { space.new ≡ keys_space_of l i state space.old }
@@ -305,6 +312,7 @@ pub fn keys(l: Line, i: usize, state: u32, space: &mut [u8]) -> Fed
 }
 
 // Power off and on at one head.
+#[tactic(auto, unfolding(crate::specs::Calls::power_of))]
 pub fn power(l: Line, i: usize) -> Called
     ensures { result ≡ power_of l i }
 {
@@ -312,6 +320,7 @@ pub fn power(l: Line, i: usize) -> Called
 }
 
 // An older head brought over, whatever other older heads there are.
+#[tactic(auto, unfolding(crate::specs::Calls::bring_of))]
 pub fn bring(l: Line, i: usize) -> Called
     ensures { result ≡ bring_of l i }
 {
@@ -319,6 +328,7 @@ pub fn bring(l: Line, i: usize) -> Called
 }
 
 // What the last damaged telegram that one head heard was hit by.
+#[tactic(auto, unfolding(crate::specs::Calls::last_hit_of))]
 pub fn last_hit(l: Line, i: usize) -> Hit
     ensures { result ≡ last_hit_of l i }
 {
@@ -332,6 +342,7 @@ pub fn last_hit(l: Line, i: usize) -> Hit
 }
 
 // The serial number of one head.
+#[tactic(auto, unfolding(crate::specs::Calls::serial_number_of))]
 pub fn serial_number(l: Line, i: usize) -> Serial
     ensures { result ≡ serial_number_of l i }
 {
@@ -345,6 +356,7 @@ pub fn serial_number(l: Line, i: usize) -> Serial
 }
 
 // A sheet loaded into one head.
+#[tactic(auto, unfolding(crate::specs::Calls::load_of))]
 pub fn load(l: Line, i: usize, sheet: &[u8]) -> Called
     ensures { result ≡ load_of l i sheet.now }
 {
@@ -352,6 +364,7 @@ pub fn load(l: Line, i: usize, sheet: &[u8]) -> Called
 }
 
 // The settings of one head written on a sheet at the start of the space: 20, then 3, then what the head alone writes.
+#[tactic(auto, unfolding(crate::specs::Calls::save_of, crate::specs::Calls::save_space_of))]
 pub fn save(l: Line, i: usize, space: &mut [u8]) -> Answer
     ensures value { result ≡ save_of l i (length space.old) }
     ensures space_after { space.new ≡ save_space_of l i space.old }

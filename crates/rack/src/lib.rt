@@ -32,6 +32,7 @@ pub struct Racked {
 }
 
 // Whether so many bytes are a rack: whole telegrams, 64 at most.
+#[tactic(auto, unfolding(crate::specs::Rack::is_rack))]
 fn is_rack(n: usize) -> bool
     ensures { result ≡ is_rack n }
 {
@@ -39,6 +40,7 @@ fn is_rack(n: usize) -> bool
 }
 
 // Whether the space has room for so many bytes from the place on.
+#[tactic(auto, unfolding(crate::specs::Rack::room_for))]
 fn room_for(n: usize, room: usize, place: usize) -> bool
     ensures { result ≡ room_for n room place }
 {
@@ -49,6 +51,7 @@ fn room_for(n: usize, room: usize, place: usize) -> bool
 }
 
 // Each head drops the bytes it has gathered.
+#[tactic(auto, unfolding(crate::specs::Rack::dropped_of))]
 fn dropped(line: Line, at: u32) -> Line
     requires { line.count ≤ 32 }
     ensures { result ≡ dropped_of line at }
@@ -86,6 +89,7 @@ fn telegram(bytes: &[u8], j: usize) -> [u8; 10]
 }
 
 // A reply at a place of the space; past its end, nothing.
+#[tactic(auto, unfolding(crate::specs::Rack::laid_at))]
 fn lay(space: &mut [u8], place: usize, ten: [u8; 10])
     ensures { space.new ≡ laid_at space.old place ten }
 {
