@@ -3,6 +3,7 @@ ghost use Rattle.std.specs.Prelude.{◌≡◌, length};
 ghost use Rattle.form_text.specs.Cuts.{unmarked_of, trimmed_start_of, trimmed_end_of, trimmed_of, is_separator, front_of};
 
 // The line without a byte order mark at its start, if it is the form's top line.
+#[tactic(auto, unfolding(crate::specs::Cuts::unmarked_of))]
 pub(crate) fn unmarked(line: &[u8], top: bool) -> &[u8]
     ensures { result.now ≡ unmarked_of line.now top }
 {
@@ -45,6 +46,7 @@ fn trimmed_end(line: &[u8]) -> &[u8]
 }
 
 // Without the spaces at both ends.
+#[tactic(auto, unfolding(crate::specs::Cuts::trimmed_of))]
 pub(crate) fn trimmed(line: &[u8]) -> &[u8]
     ensures { result.now ≡ trimmed_of line.now }
 {

@@ -14,6 +14,7 @@ const LONGEST: usize = 4096;
 // What a line without its newline means. `top`: it is the very first line of the form, where a byte order mark may stand; `first`: no line
 // before it was other than blank or a comment, so that it may be a heading. One of more than 4,100 bytes is malformed whatever it holds, so that
 // its first 4,101 bytes do for it.
+#[tactic(auto, unfolding(crate::specs::Form::entry_of))]
 pub fn entry(line: &[u8], top: bool, first: bool) -> Entry
     ensures { result ≡ entry_of line.now top first }
 {
@@ -26,6 +27,7 @@ pub fn entry(line: &[u8], top: bool, first: bool) -> Entry
 }
 
 // What a line without the spaces at both ends means.
+#[tactic(auto, unfolding(crate::specs::Form::read_of))]
 fn read(line: &[u8], first: bool) -> Entry
     ensures { result ≡ read_of line.now first }
 {

@@ -38,6 +38,7 @@ pub fn empty() -> Map
     Map { low: 0, high: 0 }
 }
 
+#[tactic(auto, unfolding(crate::specs::Used::bit))]
 fn bit_of(word: u64, place: u32) -> bool
     requires { place < 64 }
     ensures { result ≡ bit word place }
@@ -103,6 +104,7 @@ fn make(map: Map, node: u32, used: bool, already: Refusal) -> Change
 }
 
 // One number more.
+#[tactic(auto, unfolding(crate::specs::Used::add_of))]
 pub fn add(map: Map, node: u32) -> Change
     ensures { result ≡ add_of map node }
 {
@@ -110,6 +112,7 @@ pub fn add(map: Map, node: u32) -> Change
 }
 
 // One number less.
+#[tactic(auto, unfolding(crate::specs::Used::remove_of))]
 pub fn remove(map: Map, node: u32) -> Change
     ensures { result ≡ remove_of map node }
 {

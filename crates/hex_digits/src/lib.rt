@@ -1,4 +1,6 @@
 // Bytes as upper-case hex digits, as the programs print them.
+#![tactic(auto)]
+
 ghost use Rattle.std.specs.Prelude.{◌≡◌, ◌<◌};
 ghost use Rattle.hex_digits.specs.Digits.{digit_of, spelled_on};
 
@@ -11,6 +13,7 @@ fn digit(n: u8) -> u8
 }
 
 // The digits of the bytes at the start of the text. A text that is too short for them stays as it is.
+#[tactic(auto, unfolding(crate::specs::Digits::spelled_on))]
 pub fn spell(bytes: &[u8], text: &mut [u8])
     ensures { text.new ≡ spelled_on text.old bytes.now }
 {

@@ -17,6 +17,7 @@ pub struct Form {
 }
 
 // A form with no row.
+#[tactic(auto, unfolding(crate::specs::Held::blank_of))]
 pub fn blank() -> Form
     ensures { result ≡ blank_of }
 {
@@ -28,6 +29,7 @@ pub fn blank() -> Form
 }
 
 // One row more.
+#[tactic(auto, unfolding(crate::specs::Held::add_of))]
 pub fn add(form: Form, row: Row) -> Form
     ensures { result ≡ add_of form row }
 {
@@ -43,6 +45,7 @@ pub fn add(form: Form, row: Row) -> Form
 }
 
 // Refusal 8 goes before all else.
+#[tactic(auto, unfolding(crate::specs::Held::check_of))]
 pub fn check(form: Form) -> Answer
     ensures { result ≡ check_of form }
 {

@@ -93,6 +93,7 @@ enum Name {
 }
 
 // What a line without its newline means. One of more than 4,097 bytes is malformed whatever it holds, so that its first 4,098 bytes do for it.
+#[tactic(auto, unfolding(crate::specs::Meaning::meaning_of))]
 pub fn meaning(line: &[u8]) -> Command
     ensures { result ≡ meaning_of line.now }
 {
@@ -100,6 +101,7 @@ pub fn meaning(line: &[u8]) -> Command
 }
 
 // Byte i of the hex word that starts at the place `from`; 0 where there are no two hex digits.
+#[tactic(auto, unfolding(crate::specs::Meaning::byte_at_of))]
 pub fn byte_at(line: &[u8], from: usize, i: usize) -> u8
     ensures { result ≡ byte_at_of line.now from i }
 {
@@ -115,6 +117,7 @@ pub fn byte_at(line: &[u8], from: usize, i: usize) -> u8
 }
 
 // What a line without newline and carriage return means.
+#[tactic(auto, unfolding(crate::specs::Meaning::spoken_of, crate::specs::Meaning::command_of))]
 fn spoken(line: &[u8]) -> Command
     ensures { result ≡ spoken_of line.now }
 {

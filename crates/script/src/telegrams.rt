@@ -19,6 +19,7 @@ pub enum Entry {
 }
 
 // What a line without its newline means. One of more than 4,097 bytes is malformed whatever it holds, so that its first 4,098 bytes do for it.
+#[tactic(auto, unfolding(crate::specs::Telegrams::entry_of))]
 pub fn meaning(line: &[u8]) -> Entry
     ensures { result ≡ entry_of line.now }
 {
@@ -26,6 +27,7 @@ pub fn meaning(line: &[u8]) -> Entry
 }
 
 // What a line without newline and carriage return means.
+#[tactic(auto, unfolding(crate::specs::Telegrams::listed_of))]
 fn listed(line: &[u8]) -> Entry
     ensures { result ≡ listed_of line.now }
 {

@@ -63,6 +63,7 @@ pub(crate) fn end(line: &[u8], from: usize) -> usize
 }
 
 // Past the first word from the place `from` on.
+#[tactic(auto, unfolding(crate::specs::Places::after_of))]
 pub(crate) fn after(line: &[u8], from: usize) -> usize
     ensures { result ≡ after_of line.now from }
 {
@@ -93,6 +94,7 @@ pub(crate) fn sole(line: &[u8], from: usize) -> &[u8]
 }
 
 // Which kind a line without newline and carriage return is. The length is looked at before any word.
+#[tactic(auto, unfolding(crate::specs::Kinds::kind_of))]
 pub(crate) fn kind_of(line: &[u8]) -> Kind
     ensures { result ≡ kind_of line.now }
 {

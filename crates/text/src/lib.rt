@@ -1,5 +1,7 @@
 // What the programs share that read and write lines of text: numbers and bytes spelled in characters, the lines themselves, and lines put together
 // of pieces.
+#![tactic(auto)]
+
 pub mod laying;
 pub mod lines;
 pub mod numbers;

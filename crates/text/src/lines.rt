@@ -11,6 +11,7 @@ pub struct Taken {
 }
 
 // How long the line is without one carriage return at its end.
+#[tactic(auto, unfolding(crate::specs::Lines::bare_of))]
 pub fn bare_length(line: &[u8]) -> usize
     ensures { result ≡ length (bare_of line.now) }
 {

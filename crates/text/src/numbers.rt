@@ -62,6 +62,7 @@ pub fn signed(word: &[u8]) -> Value
 }
 
 // The value of a hex digit, and 16 for any other character.
+#[tactic(auto, unfolding(crate::specs::Numbers::hex_of))]
 fn hex(b: u8) -> u8
     ensures { result ≡ hex_of b }
 {
@@ -87,6 +88,7 @@ fn hex(b: u8) -> u8
 }
 
 // The byte of two hex digits, and 0 where one is none.
+#[tactic(auto, unfolding(crate::specs::Numbers::pair_of))]
 pub fn pair(high: u8, low: u8) -> u8
     ensures { result ≡ pair_of high low }
 {

@@ -1,0 +1,42 @@
+-- `script::spoken` meets its contract: each kind of line is a case of the definition, and what is spoken goes by its first word.
+use Prim.Native.Nat.{ℕ}
+use mathlib.Core.Path.{◌≡◌, ◌∙◌}
+use mathlib.Core.List.{List}
+use borrow.Author.Rules.{rules}
+use Rattle.script.specs.declared.Command.{Command}
+use Rattle.script.specs.declared.Command.TheVariants.{Blank, Malformed}
+use Rattle.script.specs.declared.Name.{Name}
+use Rattle.script.specs.declared.words.Kind.{Kind}
+use Rattle.script.specs.declared.words.Kind.TheVariants.{Spoken}
+use Rattle.script.specs.Words.{Word}
+use Rattle.script.specs.Places.{words_at, after_of, first_of}
+use Rattle.script.specs.Kinds.{kind_of}
+use Rattle.script.specs.Meaning.{name_of, order_of, command_of, spoken_of}
+use Rattle.script.proofs.ByKind.{by_kind}
+use Rattle.script.proofs.spoken.Goals as goal
+
+-- what is spoken, as the definition has it
+abbrev ordering : Word → List Word → Command
+ordering w ws = order_of (name_of w.chars) ws
+
+-- the order that the first word and the words past it make
+ordered : (l : List ℕ) {k : Kind} {at next : ℕ} {n : Name} {f : List ℕ} → k ≡ kind_of l → k ≡ Spoken at → n ≡ name_of f → f ≡ first_of (words_at l 0)
+    → next ≡ after_of l 0 → order_of n (words_at l next) ≡ spoken_of l
+unfolding spoken_of command_of
+ordered l {k} e s name first after =
+    let t = by_kind Malformed Blank ordering l k e s in
+    rw (name, first, after, t.1) t.0
+
+pub returns-in-Long : goal.returns-in-Long
+unfolding spoken_of command_of
+returns-in-Long c = by_kind Malformed Blank ordering _ _ c.kind_of.ensures c.in-Long.is
+
+pub returns-in-Passed : goal.returns-in-Passed
+unfolding spoken_of command_of
+returns-in-Passed c = by_kind Malformed Blank ordering _ _ c.kind_of.ensures c.in-Passed.is
+
+pub returns-in-Spoken : goal.returns-in-Spoken
+unfolding spoken_of command_of
+returns-in-Spoken c = let f = c in
+    c.order.ensures
+    ∙ ordered _ f.kind_of.ensures f.in-Spoken.is c.named-name.ensures f.first.ensures c.after-next.ensures
