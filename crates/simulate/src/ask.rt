@@ -47,6 +47,7 @@ fn reply(space: &[u8]) -> &[u8]
 }
 
 // What a byte drew. One that is refused draws nothing.
+#[tactic(auto, unfolding(crate::specs::Ask::told_of))]
 pub(crate) fn told(question: Telegram, heard: Heard, space: &[u8]) -> Drawn
     ensures { result ≡ told_of question heard space.now }
 {
@@ -65,6 +66,7 @@ pub(crate) fn told(question: Telegram, heard: Heard, space: &[u8]) -> Drawn
 }
 
 // The four digits of an error code.
+#[tactic(auto, unfolding(crate::specs::Ask::code_digits_of, hex_digits::specs::Digits::spelled_on))]
 fn code_digits(code: u16) -> [u8; 4]
     ensures { result ≡ code_digits_of code }
 {

@@ -33,6 +33,7 @@ pub(crate) struct Obeyed {
 }
 
 // An empty line, and space for one reply.
+#[tactic(auto, unfolding(crate::specs::Desk::desk_of))]
 pub(crate) fn bare() -> Desk
     ensures { result ≡ desk_of }
 {
@@ -50,6 +51,7 @@ fn write_answer(rt: &impl Print, a: Answer) -> io::Result<()> {
 }
 
 // The answer that shows an exclusive-or.
+#[tactic(auto, unfolding(crate::specs::Desk::hit_line_of, hex_digits::specs::Digits::spelled_on))]
 fn hit_line(x: u8) -> [u8; 7]
     ensures { result ≡ hit_line_of x }
 {
@@ -204,6 +206,7 @@ fn saved(rt: &impl Print, d: Desk, head: usize) -> Obeyed
 }
 
 // A rack of these bytes lends as much as a byte does.
+#[tactic(auto, unfolding(crate::specs::Desk::racked_of))]
 fn rack(rt: &impl Print, d: Desk, time: u32, place: usize, bytes: &[u8]) -> Obeyed
     ensures { result.desk ≡ racked_of d time place bytes.now }
 {

@@ -24,6 +24,7 @@ pub(crate) struct Sent {
 }
 
 // The reply at the start of the space, after a blank.
+#[tactic(auto, unfolding(crate::specs::Feeding::word_of))]
 pub(crate) fn word(space: &[u8]) -> [u8; 21]
     ensures { result ≡ word_of space.now }
 {
