@@ -120,7 +120,7 @@ fn check_access(c: Command, a: Access, castable: bool) -> Verdict
 }
 
 // What the interlock covers: the 39 and A0h.
-#[tactic(auto, unfolding(crate::specs::Checks::lockable_of))]
+#[tactic(auto, unfolding(crate::specs::Checks::lockable_of), using(rows::proofs::Groups::stored_at))]
 fn lockable(address: u8) -> bool
     ensures { result ≡ lockable_of address }
 {

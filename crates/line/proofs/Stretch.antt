@@ -6,7 +6,7 @@ use mathlib.Core.Bool.{Bool, true, false, cond}
 use mathlib.Core.List.{List, [], ◌∷◌}
 use native.Mathlib.Omega.{arith}
 use native.Mathlib.Numerals.{add-one}
-use borrow.Author.Tests.{le-ltb, lt-ltb, ltb-false, eq-eqb, ne_eqb, eqb-true, eqb-false}
+use borrow.Author.Tests.{le-ltb, ltb-false, eq-eqb, ne_eqb, eqb-true, eqb-false}
 use lib.Dec.{eqb, ltb}
 use lib.ListN.{length, get_or, take, drop}
 use lib.Seq.{drop-cons}
@@ -91,21 +91,12 @@ module _ {at : ℕ} {l : Line} {bs : List ℕ} {from : ℕ} {k : Line} {left : L
       go true y = let z = eqb-true _ _ y in (g.said ∙ rw (e, g.none z), λ s. g.laid s ∙ rw (e, g.none z))
       go false y = going_stopped (eqb-false _ _ y)
 
--- ---- each way out of the call
-module _ (l : Line) (bs : List ℕ) (from at : ℕ) (s : List ℕ) where
-  pub until_malformed : fits_of l ≡ false → (unheard_at l from Malformed ≡ until_of l bs from at (length s)) × (s ≡ until_space_of l bs at s)
-  unfolding until_of until_space_of
-  until_malformed e = (rw e, rw e)
-
-  module _ (e : fits_of l ≡ true) where
-    pub until_short : length s < 10 → (unheard_at l from Space ≡ until_of l bs from at (length s)) × (s ≡ until_space_of l bs at s)
-    unfolding until_of until_space_of
-    until_short q = (rw (e, lt-ltb _ _ q), rw (e, lt-ltb _ _ q))
-
-    pub until_heard : 10 ≤ length s → {x : Stretch} {y : List ℕ} → heard_until l bs from at ≡ x → laid_until l bs at s ≡ y
-        → (x ≡ until_of l bs from at (length s)) × (y ≡ until_space_of l bs at s)
-    unfolding until_of until_space_of
-    until_heard q x y = (sym x ∙ rw (e, le-ltb _ _ q), sym y ∙ rw (e, le-ltb _ _ q))
+-- ---- the way out of a call that is not refused
+pub until_heard : (l : Line) (bs : List ℕ) (from at : ℕ) (s : List ℕ) → fits_of l ≡ true → 10 ≤ length s
+    → {x : Stretch} {y : List ℕ} → heard_until l bs from at ≡ x → laid_until l bs at s ≡ y
+    → (x ≡ until_of l bs from at (length s)) × (y ≡ until_space_of l bs at s)
+unfolding until_of until_space_of
+until_heard l bs from at s e q x y = (sym x ∙ rw (e, le-ltb _ _ q), sym y ∙ rw (e, le-ltb _ _ q))
 
 -- ---- a stretch of one byte is a byte call
 abbrev pub fed_by : Stretch → Fed

@@ -64,6 +64,7 @@ pub fn count(l: Line) -> usize
 
 // Whether the line is one that can be: at most 32 heads, each below the count let pass by its test, no two with one serial number. The serial numbers
 // are gathered on the way, so that each head is read once.
+#[tactic(auto, unfolding(crate::specs::Calls::fits_by))]
 fn fits_by(bringing: bool, l: Line) -> bool
     ensures { result ≡ fits_by bringing l }
 {
@@ -175,6 +176,7 @@ pub fn grow(l: Line, node: u32, serial: u32) -> Called
 // one byte, so whoever wants them all has to look at it before the next byte is heard. The tests for refusal are made once for all these bytes, and
 // the line is copied once, into `k`, and leaves by one exit; each arm of a turn reads and writes its head in place, so that a byte that ends no
 // telegram, as nine of ten do, writes the bytes gathered and nothing else.
+#[tactic(auto, unfolding(crate::specs::Stretch::until_of, crate::specs::Stretch::until_space_of))]
 pub fn until_reply(l: Line, bytes: &[u8], from: usize, at: u32, space: &mut [u8]) -> Stretch
     ensures value { result ≡ until_of l (drop from bytes.now) from at (length space.old) }
     ensures space_after { space.new ≡ until_space_of l (drop from bytes.now) at space.old }

@@ -140,7 +140,7 @@ module _ (l : Line) (at : ℕ) where
       fed_on (eared l e) b rest at f w.0 w.1
   gathers (c ∷ bs) e b rest now nine f =
       let w = hears (λ h. with_ear h e) (λ h. unanswered (with_ear h (one_more_of e c at))) c (λ h. more h c at e now (lt-ltb e.count 9 (omega arith))) in
-      let s = fed_on (eared l e) c (bs ++ (b ∷ rest)) at f w.0 (w.1 ∙ all_silent _ l.count l.heads) in
+      let s = fed_on (eared l e) c (bs ++ (b ∷ rest)) at f w.0 (w.1 ∙ all_silent (λ h. with_ear h (one_more_of e c at)) l.count l.heads) in
       let z = gathers bs (one_more_of e c at) b rest refl (omega arith) s.1 in
       (s.0 ∙ z.0, z.1)
 

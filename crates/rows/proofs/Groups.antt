@@ -8,7 +8,7 @@ use mathlib.Core.Logic.{◌⊎◌, inl, inr, ⊎_elim}
 use Prim.Native.Nat.{ℕ, zero, suc, ◌+◌, ◌-◌, ◌<◌, ◌≤◌}
 use native.Mathlib.Omega.{arith}
 use lib.Dec.{T, eqb, leb, ltb, eqb→eq}
-use borrow.Author.Tests.{eqb-false, le-leb, le-ltb, ltb-true, ltb-false, ne_eqb, not-true}
+use borrow.Author.Tests.{le-ltb, ltb-true, ltb-false, not-true}
 use Rattle.rows.specs.declared.access.Access.{Access}
 use Rattle.rows.specs.declared.access.Access.TheVariants.{ReadWrite, ReadOnly, WriteOnly, Unknown}
 use Rattle.rows.specs.declared.kind.Kind.{Kind}
@@ -18,8 +18,7 @@ use Rattle.rows.specs.declared.kind.Shown.TheVariants.{Identification, Version, 
 use Rattle.rows.specs.declared.kind.Order.{Order}
 use Rattle.rows.specs.declared.kind.Order.TheVariants.{System, Calibration, Interlock, Freezing, Assignment}
 use Rattle.rows.specs.declared.table.Row.{Row}
-use Rattle.rows.specs.declared.table.Place.{Place}
-use Rattle.rows.specs.declared.table.Place.TheVariants.{At, Nowhere}
+use Rattle.rows.specs.declared.table.Place.TheVariants.{At}
 use Rattle.rows.specs.Among.{among}
 use Rattle.rows.specs.Table.{address, rows, row_of, place_in, place_of, is_at}
 use Rattle.rows.specs.Access.{stored, set_points, read_only, write_only, access_of}
@@ -89,33 +88,6 @@ pub way : (x : Access) (lo n : ℕ) → T (span (outside keys (is x)) lo n) → 
 way x lo n t {a} out h g = same x a (in_rest (is x) keys lo n t a out h g)
 
 -- ---- what stands behind an address that is none of the 39
-abbrev other_keys : List (List ℕ)
-other_keys =
-    (255 ∷ []) ∷ (254 ∷ []) ∷ (253 ∷ []) ∷ (252 ∷ []) ∷ (251 ∷ []) ∷ (250 ∷ []) ∷ (210 ∷ []) ∷ (170 ∷ []) ∷ (168 ∷ []) ∷ (167 ∷ []) ∷ (160 ∷ [])
-    ∷ (150 ∷ []) ∷ (128 ∷ []) ∷ (103 ∷ []) ∷ (101 ∷ []) ∷ []
-
-abbrev is_unknown : Access → Bool
-is_unknown x = eqb (code x) 3
-
-unknown_only : (k : Kind) → T (is_unknown (group_of k)) → kind.Unknown ≡ k
-unknown_only (kind.Stored i) t = absurd t
-unknown_only kind.SetPoint1 t = absurd t
-unknown_only kind.SetPoint2 t = absurd t
-unknown_only (kind.ReadOnly s) t = absurd t
-unknown_only (kind.WriteOnly o) t = absurd t
-unknown_only kind.Unknown t = refl
-
-pub other_none : (lo n : ℕ) → T (span (outside other_keys (λ k. is_unknown (group_of (other_of k)))) lo n) → {a : ℕ} → NoneOf other_keys a
-    → lo ≤ a → a < lo + n → kind.Unknown ≡ other_of a
-other_none lo n t {a} out h g = unknown_only (other_of a) (in_rest (λ k. is_unknown (group_of (other_of k))) other_keys lo n t a out h g)
-
-pub other_error : {a : ℕ} → NoneOf other_keys a → 0x80 ≤ a → a < 0x8B → kind.ReadOnly (ErrorAt (a - 0x81)) ≡ other_of a
-unfolding other_of
-other_error {a} out h g =
-    let n : eqb a 0x80 ≡ false = not-true _ (is_true _ (in_rest (λ k. not (eqb k 0x80)) other_keys 0x80 11 tt a out h g)) in
-    let m : (a ≡ 0x80 → ⊥) = eqb-false a 0x80 n in
-    simp (ne_eqb a 0x65 (λ e. omega arith), ne_eqb a 0x67 (λ e. omega arith), n, le-leb 0x81 a (omega arith), le-leb a 0x8A (omega arith))
-
 -- the address of an order
 abbrev pub order_at : Order → ℕ
 order_at System = 0xA0
@@ -152,6 +124,9 @@ other_has P a one two shown order unknown =
     (either P (eqb a 0xFF) two unknown)))))))))))))))
 
 -- ---- each of the 256 addresses falls in exactly one group
+abbrev is_unknown : Access → Bool
+is_unknown x = eqb (code x) 3
+
 abbrev count : List ℕ → ℕ → ℕ
 count [] a = 0
 count (x ∷ xs) a = cond (eqb a x) 1 0 + count xs a

@@ -2,7 +2,6 @@ pub mod Span
 pub mod Places
 pub mod Listed
 pub mod Groups
-pub mod Tests
 pub mod Fits
 pub mod Laws
 pub mod Written

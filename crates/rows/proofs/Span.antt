@@ -8,7 +8,7 @@ use mathlib.Core.Logic.{◌⊎◌, inl, inr, ⊎_elim}
 use Prim.Native.Nat.{ℕ, zero, suc, ◌+◌, ◌<◌, ◌≤◌}
 use native.Mathlib.Omega.{arith}
 use lib.Dec.{T, eqb, eqb→eq}
-use borrow.Author.Tests.{eqb-true, eqb-false, eq-eqb}
+use borrow.Author.Tests.{eqb-true, eqb-false}
 use Rattle.rows.specs.Among.{among}
 
 pub both : (a b : Bool) → T (a && b) → T a × T b
@@ -18,10 +18,6 @@ both false b t = absurd t
 pub one_of_two : (a b : Bool) → T (a || b) → T a ⊎ T b
 one_of_two true b t = inl tt
 one_of_two false b t = inr t
-
-second_of_two : (a b : Bool) → T b → T (a || b)
-second_of_two true b t = tt
-second_of_two false b t = t
 
 -- the test passes at each of the n numbers from lo on
 abbrev pub span : (ℕ → Bool) → ℕ → ℕ → Bool
@@ -51,13 +47,6 @@ among_one [] a t = t
 among_one (x ∷ []) a t = eqb→eq a x t
 among_one (x ∷ (y ∷ xs)) a t =
     ⊎_elim (λ e. inl (eqb→eq a x e)) (λ o. inr (among_one (y ∷ xs) a o)) (one_of_two (eqb a x) (among (y ∷ xs) a) t)
-
-one_t : (xs : List ℕ) (a : ℕ) → OneOf xs a → T (among xs a)
-one_t [] a h = h
-one_t (x ∷ []) a h = subst T (sym (eq-eqb a x h)) tt
-one_t (x ∷ (y ∷ xs)) a h =
-    ⊎_elim (λ e. subst (λ (b : Bool). T (b || among (y ∷ xs) a)) (sym (eq-eqb a x e)) tt)
-    (λ o. second_of_two (eqb a x) (among (y ∷ xs) a) (one_t (y ∷ xs) a o)) h
 
 -- the test passes at each number of the list
 abbrev pub each : (ℕ → Bool) → List ℕ → Bool
@@ -97,14 +86,3 @@ in_rest f kss lo n t a out h g =
 pub is_true : (b : Bool) → T b → b ≡ true
 is_true true t = refl
 is_true false t = absurd t
-
-is_false : (b : Bool) → (T b → ⊥) → b ≡ false
-is_false true h = absurd (h tt)
-is_false false h = refl
-
--- an arm of single numbers, and the other arms, where the definition goes by the same list
-pub one_among : (xs : List ℕ) (a : ℕ) → OneOf xs a → among xs a ≡ true
-one_among xs a h = is_true (among xs a) (one_t xs a h)
-
-pub none_among : (xs : List ℕ) (a : ℕ) → (OneOf xs a → ⊥) → among xs a ≡ false
-none_among xs a h = is_false (among xs a) (λ t. h (among_one xs a t))

@@ -1,19 +1,15 @@
 -- Tests and sums of numbers at i64, as the code's tests and sums are left to an author.
 -- Assumes nothing.
-use Prim.Native.Nat.{ℕ, ◌≤◌, ◌<◌}
+use Prim.Native.Nat.{◌≤◌, ◌<◌}
 use mathlib.Core.Path.{◌≡◌}
 use mathlib.Core.Bool.{false}
 use native.Mathlib.Omega.{arith}
 use lib.IntN.{ℤ, pos, negsuc, nat_abs, ◌-ℤ◌}
 use lib.Signed.{lt_z, mag, nat_abs-le}
 use mir.Syntax.{w32, w64}
-use mir.Val.{Fits, SFits, to_z, of_z}
-use mir.Facts.{to_z-of_z, to_z_pos, sfits_widen}
+use mir.Val.{SFits, to_z, of_z}
+use mir.Facts.{to_z-of_z, sfits_widen}
 use Rattle.signed.proofs.Sizes.{above, abs_sub}
-
--- a word widened to i64 is the number
-pub wide : {n : ℕ} → Fits w32 n → to_z w64 n ≡ pos n
-wide h = to_z_pos w64 (omega arith)
 
 -- a callee's result, from its range, `c.callee.type_inv`
 pub back : (z : ℤ) → mag z < 9223372036854775808 → to_z w64 (of_z w64 z) ≡ z

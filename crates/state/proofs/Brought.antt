@@ -1,7 +1,7 @@
 -- Older heads: one that the old test lets pass is well-formed once it is brought over; one that refusal 20 lets pass is no older head, and passes the old
 -- test too.
 -- Assumes nothing.
-use Prim.Native.Nat.{ℕ, zero}
+use Prim.Native.Nat.{ℕ}
 use mathlib.Core.Path.{◌≡◌, refl, sym, ap, ◌∙◌}
 use mathlib.Core.Bool.{Bool, true, false, cond, not, ◌||◌, and-eq-true_iff}
 use mathlib.Core.List.{List}

@@ -1,16 +1,7 @@
--- `line::calls::fits_by` meets its contract: the count is looked at first; after i turns the flag says whether the first i heads pass the test and
--- their serial numbers, which stand gathered then, differ.
-use Prim.Native.Nat.{◌≤◌, ◌<◌, ◌-◌}
-use mathlib.Core.Path.{◌≡◌, refl, sym, ◌∙◌}
-use mathlib.Core.Bool.{◌&&◌}
-use native.Mathlib.Omega.{arith}
-use native.Mathlib.Numerals.{add-one}
-use borrow.Author.Rules.{rules}
-use lib.ListN.{length, take, length-set}
+-- After i turns the flag says whether the first i heads pass the test and their serial numbers, which stand gathered then, differ.
+use Rattle.std.proofs.Common.{◌≡◌, ◌-◌, ◌≤◌, ◌&&◌, length, take}
 use Rattle.line.specs.Round.{all_pass_of}
 use Rattle.line.specs.Serials.{serials_of, all_differ}
-use Rattle.line.proofs.Laws.{parts_long, by_few, by_over}
-use Rattle.line.proofs.Apart.{both_turn, take_set, serials_turn}
 use Rattle.line.proofs.calls.fits_by.Given as goal
 
 abbrev pub invariant-loop-i : goal.invariant-loop-i

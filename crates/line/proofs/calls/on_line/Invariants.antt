@@ -1,14 +1,7 @@
--- `line::calls::on_line` meets its contract: after i turns the flag says whether one of the first i heads has the serial number.
-use Prim.Native.Nat.{◌≤◌, ◌<◌, ◌-◌}
-use mathlib.Core.Path.{◌≡◌, refl, sym, ap, ◌∙◌}
-use native.Mathlib.Omega.{arith}
-use native.Mathlib.Numerals.{add-one}
-use borrow.Author.Rules.{rules}
-use lib.ListN.{length}
+-- After i turns the flag says whether one of the first i heads has the serial number.
+use Rattle.std.proofs.Common.{◌≡◌, ◌-◌, ◌≤◌, length}
 use Rattle.rows.specs.Among.{among}
 use Rattle.line.specs.Serials.{serials_of}
-use Rattle.line.proofs.Laws.{parts_long}
-use Rattle.line.proofs.Apart.{among_last, serials_turn}
 use Rattle.line.proofs.calls.on_line.Given as goal
 
 abbrev pub invariant-loop-i : goal.invariant-loop-i

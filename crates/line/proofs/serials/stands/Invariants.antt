@@ -1,12 +1,6 @@
--- `line::serials::stands` meets its contract: after i turns the flag says whether the number is among the first i.
-use Prim.Native.Nat.{◌≤◌, ◌<◌, ◌-◌}
-use mathlib.Core.Path.{◌≡◌, refl, sym}
-use native.Mathlib.Omega.{arith}
-use native.Mathlib.Numerals.{add-one}
-use borrow.Author.Rules.{rules}
-use lib.ListN.{length, take}
+-- After i turns the flag says whether the number is among the first i.
+use Rattle.std.proofs.Common.{◌≡◌, ◌-◌, ◌≤◌, length, take}
 use Rattle.rows.specs.Among.{among}
-use Rattle.line.proofs.Apart.{among_last, take_last}
 use Rattle.line.proofs.serials.stands.Given as goal
 
 abbrev pub invariant-loop-i : goal.invariant-loop-i
