@@ -1,4 +1,6 @@
 // What a line of a written order form means.
+#![tactic(auto)]
+
 mod cuts;
 pub mod rows;
 

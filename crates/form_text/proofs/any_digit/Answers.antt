@@ -1,10 +1,9 @@
 -- `form_text::any_digit` meets its contract. The invariant: the line has a digit where it has one from place i on.
-use Prim.Native.Nat.{ℕ, ◌+◌, ◌-◌, ◌<◌, ◌≤◌}
-use mathlib.Core.Path.{◌≡◌, refl, sym, ◌∙◌}
+use Prim.Native.Nat.{ℕ, ◌+◌, ◌<◌, ◌≤◌}
+use mathlib.Core.Path.{◌≡◌, sym, ◌∙◌}
 use mathlib.Core.Bool.{true, false}
 use mathlib.Core.List.{List}
 use native.Mathlib.Numerals.{add-one}
-use native.Mathlib.Omega.{arith}
 use lib.ListN.{length, get_or, drop, drop_of_length-le}
 use lib.Seq.{drop-cons}
 use Rattle.text.specs.Numbers.{within}
@@ -24,24 +23,13 @@ module _ (l : List ℕ) (i : ℕ) where
   unfolding any_digit
   past h = simp (drop_of_length-le l h)
 
-returns : tie.Need-returns invariant-loop decreases-loop
-returns c =
-    let k = c in
-    sym (here _ _ k.loop-i-test.true c.if-b.true) ∙ k.loop-i.invariant
-
-loop-again : tie.Need-loop-preserved invariant-loop decreases-loop
-loop-again c =
-    let k = c in
-    sym (on _ _ k.loop-i-test.true c.if-b.false) ∙ k.loop-i.invariant
-
-returns-2 : tie.Need-returns-2 invariant-loop decreases-loop
-returns-2 c = sym (past _ _ c.loop-i-test.false) ∙ c.loop-i.invariant
-
 pub returns-then-b : goal.returns-then-b
-returns-then-b = eturn
+returns-then-b c =
+    sym (here _ _ c.loop-i-test.true c.if-b.true) ∙ c.loop-i.invariant
 
 pub loop-i-preserved : goal.loop-i-preserved
-loop-i-preserved = oop-agai
+loop-i-preserved c =
+    sym (on _ _ c.loop-i-test.true c.if-b.false) ∙ c.loop-i.invariant
 
 pub returns : goal.returns
-returns = eturns-
+returns c = sym (past _ _ c.loop-i-test.false) ∙ c.loop-i.invariant

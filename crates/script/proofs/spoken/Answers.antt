@@ -2,7 +2,6 @@
 use Prim.Native.Nat.{ℕ}
 use mathlib.Core.Path.{◌≡◌, ◌∙◌}
 use mathlib.Core.List.{List}
-use borrow.Author.Rules.{rules}
 use Rattle.script.specs.declared.Command.{Command}
 use Rattle.script.specs.declared.Command.TheVariants.{Blank, Malformed}
 use Rattle.script.specs.declared.Name.{Name}
@@ -37,6 +36,5 @@ returns-in-Passed c = by_kind Malformed Blank ordering _ _ c.kind_of.ensures c.i
 
 pub returns-in-Spoken : goal.returns-in-Spoken
 unfolding spoken_of command_of
-returns-in-Spoken c = let f = c in
-    c.order.ensures
-    ∙ ordered _ f.kind_of.ensures f.in-Spoken.is c.named-name.ensures f.first.ensures c.after-next.ensures
+returns-in-Spoken c = c.order.ensures
+    ∙ ordered _ c.kind_of.ensures c.in-Spoken.is c.named-name.ensures c.first.ensures c.after-next.ensures

@@ -1,11 +1,8 @@
 -- `form_text::cuts::front_length` meets its contract. The invariant: the first separator is as far as the first one from place i on.
 use Prim.Native.Nat.{◌+◌, ◌-◌}
-use mathlib.Core.Path.{◌≡◌, sym, ◌∙◌}
-use native.Mathlib.Nat.{zero-add}
-use native.Mathlib.Omega.{arith}
+use mathlib.Core.Path.{◌≡◌}
 use lib.ListN.{length, drop}
 use Rattle.form_text.specs.Cuts.{front_of}
-use Rattle.form_text.proofs.Split.{front_on, front_here, front_past}
 use Rattle.form_text.proofs.cuts.front_length.Given as goal
 
 abbrev pub invariant-loop-i : goal.invariant-loop-i

@@ -1,13 +1,8 @@
 -- `form_text::cuts::trimmed_end` meets its contract. The invariant: without the spaces at the end the line is what its first n characters are.
-use Prim.Native.Nat.{ℕ, zero, suc, ◌-◌, ◌≤◌}
-use mathlib.Core.Path.{◌≡◌, refl, sym, ◌∙◌}
-use mathlib.Core.List.{List}
-use native.Mathlib.Nat.{sub-zero}
-use native.Mathlib.Omega.{arith}
+use Prim.Native.Nat.{◌≤◌}
+use mathlib.Core.Path.{◌≡◌}
 use lib.ListN.{length, take}
-use lib.Seq.{take-length}
 use Rattle.form_text.specs.Cuts.{trimmed_end_of}
-use Rattle.form_text.proofs.Dropped.{end_on, end_here}
 use Rattle.form_text.proofs.cuts.trimmed_end.Given as goal
 
 abbrev pub invariant-loop-n : goal.invariant-loop-n

@@ -1,10 +1,8 @@
 -- `form_text::cuts::trimmed_start` meets its contract. The invariant: without the spaces at the start the line is what it is from place i on.
 use Prim.Native.Nat.{◌≤◌, ◌-◌}
-use mathlib.Core.Path.{◌≡◌, refl, sym, ◌∙◌}
-use native.Mathlib.Omega.{arith}
+use mathlib.Core.Path.{◌≡◌}
 use lib.ListN.{length, drop}
 use Rattle.form_text.specs.Cuts.{trimmed_start_of}
-use Rattle.form_text.proofs.Dropped.{start_on, start_here, start_past}
 use Rattle.form_text.proofs.cuts.trimmed_start.Given as goal
 
 abbrev pub invariant-loop-i : goal.invariant-loop-i

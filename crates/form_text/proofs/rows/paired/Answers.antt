@@ -1,5 +1,4 @@
 -- `form_text::rows::paired` meets its contract: at each return the matches that led there say which case of the definition holds.
-use borrow.Author.Rules.{rules}
 use Rattle.form_text.proofs.rows.paired.Goals as goal
 
 pub returns-in_default : goal.returns-in_default

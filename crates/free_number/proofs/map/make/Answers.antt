@@ -2,33 +2,30 @@
 use mathlib.Core.Path.{sym, ap, ◌∙◌}
 use mathlib.Core.Bool.{Bool, beq}
 use borrow.Author.Rules.{rules}
-use borrow.Author.Tests.{not-true, not-false}
 use Rattle.head.proofs.Nodes.{node_within}
 use Rattle.free_number.proofs.map.make.Goals as goal
 
 pub returns-then-not-node_fits : goal.returns-then-not-node_fits
-returns-then-not-node_fits c = rw (c.refuse.ensures, sym c.node_fits.ensures ∙ not-true _ c.if-not-node_fits.true)
+returns-then-not-node_fits c = rw (c.refuse.ensures, sym c.node_fits.ensures ∙ c.if-not-node_fits.true)
 
 pub is_used-requires : goal.is_used-requires
-is_used-requires c = node_within _ (sym c.node_fits.ensures ∙ not-false _ c.if-not-node_fits.false)
+is_used-requires c = node_within _ (sym c.node_fits.ensures ∙ c.if-not-node_fits.false)
 
 pub returns-then-is_used-used : goal.returns-then-is_used-used
-returns-then-is_used-used c = let k = c in
-    let a = k.args in
+returns-then-is_used-used c = let a = c.args in
     rw (
       c.refuse-then-is_used-used.ensures,
-      sym k.node_fits.ensures ∙ not-false _ k.if-not-node_fits.false,
+      sym c.node_fits.ensures ∙ c.if-not-node_fits.false,
       ap (λ (b : Bool). beq b a.used) (sym c.is_used.ensures) ∙ c.if-is_used-used.true,
     )
 
 pub turn-requires : goal.turn-requires
-turn-requires c = let k = c in node_within _ (sym k.node_fits.ensures ∙ not-false _ k.if-not-node_fits.false)
+turn-requires c = node_within _ (sym c.node_fits.ensures ∙ c.if-not-node_fits.false)
 
 pub returns : goal.returns
-returns c = let k = c in
-    let a = k.args in
+returns c = let a = c.args in
     rw (
       c.turn.ensures,
-      sym k.node_fits.ensures ∙ not-false _ k.if-not-node_fits.false,
+      sym c.node_fits.ensures ∙ c.if-not-node_fits.false,
       ap (λ (b : Bool). beq b a.used) (sym c.is_used.ensures) ∙ c.if-is_used-used.false,
     )
