@@ -60,6 +60,7 @@ pub(crate) fn aim_first(value: u32, word: u16, h: Head) -> Head
 }
 
 // The static bit is set where A is near the valid set point 2, but in mode 3.
+#[tactic(auto, using(crate::proofs::Shown::settles_is))]
 fn settle(h: Head) -> Head
     ensures { result ≡ settle h }
 {

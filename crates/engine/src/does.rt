@@ -43,7 +43,7 @@ pub(crate) fn calibrate(h: Head) -> Head
 }
 
 // AAh: what FEh would now show unfrozen is kept.
-#[tactic(auto, unfolding(crate::specs::Does::freeze))]
+#[tactic(auto, unfolding(crate::specs::Does::freeze), using(crate::proofs::Shown::current_is))]
 pub(crate) fn freeze(h: Head) -> Head
     ensures { result ≡ freeze h }
 {

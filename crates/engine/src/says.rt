@@ -21,7 +21,7 @@ pub(crate) fn silent(after: Head) -> Told
 }
 
 // With the status word of a head before.
-#[tactic(auto, unfolding(crate::specs::Way::reply))]
+#[tactic(auto, unfolding(crate::specs::Way::reply), using(crate::proofs::Shown::status_is))]
 pub(crate) fn answer_old(t: Telegram, before: Head, value: u32, after: Head) -> Told
     ensures { result ≡ reply t t.parameter before value after }
 {
@@ -40,7 +40,7 @@ pub(crate) fn answer_old(t: Telegram, before: Head, value: u32, after: Head) -> 
 }
 
 // With the status word after.
-#[tactic(auto, unfolding(crate::specs::Way::reply))]
+#[tactic(auto, unfolding(crate::specs::Way::reply), using(crate::proofs::Shown::status_is))]
 fn reply(t: Telegram, parameter: u8, value: u32, after: Head) -> Told
     ensures { result ≡ reply t parameter after value after }
 {

@@ -95,7 +95,7 @@ fn lock_check(t: Telegram, h: Head, n: Head) -> Told
 }
 
 // 5. Write to read only, read of write only, broadcast where none is allowed.
-#[tactic(auto, unfolding(crate::specs::Way::complain))]
+#[tactic(auto, unfolding(crate::specs::Way::complain), using(crate::proofs::Addressed::broadcast_is))]
 fn access_check(t: Telegram, h: Head, n: Head) -> Told
     ensures { result ≡ check5 t h n (check6 t h n (check7 t h n (obeyed t h n))) }
 {

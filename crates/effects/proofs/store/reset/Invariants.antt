@@ -1,12 +1,9 @@
 -- `effects::store::reset` meets its contract. The loop's invariant: the values done, and the reset of those left, are the reset of all.
-use Prim.Native.Nat.{◌≤◌, ◌<◌, ◌-◌}
-use mathlib.Core.Path.{◌≡◌, refl, ◌∙◌}
+use Prim.Native.Nat.{◌≤◌, ◌-◌}
+use mathlib.Core.Path.{◌≡◌}
 use mathlib.Core.List.{◌++◌}
-use native.Mathlib.Omega.{arith}
-use borrow.Author.Rules.{rules}
-use lib.ListN.{length, take, drop, length-set}
-use Rattle.effects.specs.Stored.{reset_from, reset_of}
-use Rattle.effects.proofs.Resets.{reset_turn, reset_end}
+use lib.ListN.{length, take, drop}
+use Rattle.effects.specs.Stored.{reset_from}
 use Rattle.effects.proofs.store.reset.Given as goal
 
 abbrev pub invariant-loop-i : goal.invariant-loop-i

@@ -1,13 +1,10 @@
 -- `engine::keeps::reset_all` meets its contract. The loop's invariant: the values done, and the reset of those left, are the reset of all.
-use Prim.Native.Nat.{◌≤◌, ◌<◌, ◌-◌}
-use mathlib.Core.Path.{◌≡◌, refl}
+use Prim.Native.Nat.{◌≤◌, ◌-◌}
+use mathlib.Core.Path.{◌≡◌}
 use mathlib.Core.List.{◌++◌}
-use native.Mathlib.Omega.{arith}
-use borrow.Author.Rules.{rules}
-use lib.ListN.{length, take, drop, length-set}
+use lib.ListN.{length, take, drop}
 use Rattle.engine.specs.Addresses.{the39}
 use Rattle.engine.specs.Does.{reset_all}
-use Rattle.engine.proofs.Resets.{reset_turn, reset_end}
 use Rattle.engine.proofs.keeps.reset_all.Given as goal
 
 abbrev pub invariant-loop-i : goal.invariant-loop-i
