@@ -4,7 +4,8 @@ ghost use Rattle.office.specs.Decimal.{decimal_of};
 ghost use Rattle.office.specs.Answer.{blank_of, put_of, written, silence_line, reply_line, refused_line, error_line, outcome_line};
 
 use engine::Outcome;
-use libc::STDOUT_FILENO;
+use itoa::Buffer;
+use std::io;
 use text::laying;
 
 // Room for the longest answer, which names a line by twenty digits.
@@ -43,9 +44,9 @@ fn put(line: Line, piece: &[u8]) -> Line
 fn put_number(line: Line, n: u64) -> Line
     ensures { result ≡ put_of line (decimal_of n) }
 {
-    let mut digits = [0u8; 20];
-    let k = io::decimal(n, &mut digits);
-    put(line, &digits[..k])
+    let mut digits = Buffer::new();
+    let text = digits.format(n);
+    put(line, text.as_bytes())
 }
 
 fn silence() -> Line
@@ -96,10 +97,10 @@ pub(crate) fn outcome(what: Outcome, ten: [u8; 10]) -> Line
 }
 
 // The answer, if there is one, written at once.
-pub(crate) fn write(line: Line) -> bool
+pub(crate) fn write(rt: &impl Print, line: Line) -> io::Result<()>
     requires { line.count ≤ length line.text }
 {
     let text = line.text;
     let count = line.count;
-    io::write_all(STDOUT_FILENO, &text[..count])
+    rt.write_all(&text[..count])
 }
