@@ -21,10 +21,10 @@ returns-then-number-k c = let a = c.args in
 
 pub loop-k-preserved : goal.loop-k-preserved
 loop-k-preserved c = let a = c.args in (
-      omega arith,
-      next a.n a.rows c.loop-k.k (omega arith) c.loop-k-test.true c.loop-k.invariant.1 _ c.place-serial.ensures
-          c.if-serial-k.false _ c.place-number.ensures c.if-number-k.false,
-    )
+  omega arith,
+  next a.n a.rows c.loop-k.k (omega arith) c.loop-k-test.true c.loop-k.invariant.1 _ c.place-serial.ensures
+      c.if-serial-k.false _ c.place-number.ensures c.if-number-k.false,
+)
 
 pub returns : goal.returns
 returns c = let a = c.args in

@@ -18,10 +18,10 @@ returns-then-not-node_fits c = let a = c.args in
 
 pub loop-i-preserved : goal.loop-i-preserved
 loop-i-preserved c = let a = c.args in (
-      omega arith,
-      next is_outside a.n a.rows c.loop-i.i (omega arith) c.loop-i-test.true c.loop-i.invariant.1
-          (ap not (sym c.node_fits.ensures ∙ c.if-not-node_fits.false)),
-    )
+  omega arith,
+  next is_outside a.n a.rows c.loop-i.i (omega arith) c.loop-i-test.true c.loop-i.invariant.1
+      (ap not (sym c.node_fits.ensures ∙ c.if-not-node_fits.false)),
+)
 
 pub returns : goal.returns
 returns c = let a = c.args in

@@ -18,10 +18,10 @@ returns-then-value c = let a = c.args in
 
 pub loop-i-preserved : goal.loop-i-preserved
 loop-i-preserved c = let a = c.args in (
-      omega arith,
-      next (has a.column a.value) a.n a.rows c.loop-i.i (omega arith) c.loop-i-test.true c.loop-i.invariant.1
-          (ne_eqb _ _ (λ e. c.if-value.false (c.value.ensures ∙ e))),
-    )
+  omega arith,
+  next (has a.column a.value) a.n a.rows c.loop-i.i (omega arith) c.loop-i-test.true c.loop-i.invariant.1
+      (ne_eqb _ _ (λ e. c.if-value.false (c.value.ensures ∙ e))),
+)
 
 pub returns : goal.returns
 returns c = let a = c.args in
