@@ -41,6 +41,7 @@ fn put(line: Line, piece: &[u8]) -> Line
 }
 
 // A number more, in decimal digits.
+#[tactic(auto, using(crate::proofs::Decimals::decimal_is))]
 fn put_number(line: Line, n: u64) -> Line
     ensures { result ≡ put_of line (decimal_of n) }
 {
@@ -49,6 +50,7 @@ fn put_number(line: Line, n: u64) -> Line
     put(line, text.as_bytes())
 }
 
+#[tactic(auto, using(crate::proofs::Put::one_piece))]
 fn silence() -> Line
     ensures result_value { written result ≡ silence_line }
     ensures count_in_bounds { result.count ≤ length result.text }
@@ -56,6 +58,7 @@ fn silence() -> Line
     put(blank(), b"silence\n")
 }
 
+#[tactic(auto, using(crate::proofs::Put::one_piece, hex_digits::proofs::Ten::ten_line))]
 fn reply(ten: [u8; 10]) -> Line
     ensures result_value { written result ≡ reply_line ten }
     ensures count_in_bounds { result.count ≤ length result.text }
@@ -66,6 +69,7 @@ fn reply(ten: [u8; 10]) -> Line
 }
 
 // A refusal, by its number.
+#[tactic(auto, using(crate::proofs::Put::numbered))]
 fn refused(number: u32) -> Line
     ensures result_value { written result ≡ refused_line number }
     ensures count_in_bounds { result.count ≤ length result.text }
@@ -75,6 +79,7 @@ fn refused(number: u32) -> Line
 }
 
 // A line that is no telegram, by its number.
+#[tactic(auto, using(crate::proofs::Put::numbered))]
 pub(crate) fn error(number: u64) -> Line
     ensures result_value { written result ≡ error_line number }
     ensures count_in_bounds { result.count ≤ length result.text }

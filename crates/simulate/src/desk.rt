@@ -255,6 +255,7 @@ fn spaced(rt: &impl Print, d: Desk, size: usize) -> Obeyed
 }
 
 // What a line of the script says, done and answered.
+#[tactic(auto, unfolding(crate::specs::Desk::obeyed_of))]
 pub(crate) fn obey(rt: &impl Print, d: Desk, text: &[u8], number: u64) -> Obeyed
     ensures { result.desk ≡ obeyed_of d text.now }
 {
