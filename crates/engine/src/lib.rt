@@ -1,5 +1,7 @@
 // A whole telegram, a second way: a head's answer to ten bytes at once, straight down document 01. Nothing of the crates judge, effects, reply or
 // head is used.
+#![tactic(auto)]
+
 mod aims;
 mod control;
 mod does;

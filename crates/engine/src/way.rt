@@ -20,7 +20,6 @@ fn obey(t: Telegram, h: Head, n: Head) -> Told
 }
 
 // 7. For 96h a number above the count.
-#[tactic(auto, unfolding(crate::specs::Way::complain))]
 fn number_check(t: Telegram, h: Head, n: Head) -> Told
     ensures { result ≡ numbered t h n (obeyed t h n) }
 {
@@ -33,7 +32,6 @@ fn number_check(t: Telegram, h: Head, n: Head) -> Told
 }
 
 // 7. Below low or above high: a value of D2h there drops the offer.
-#[tactic(auto, unfolding(crate::specs::Way::complain))]
 fn outside(t: Telegram, fault: Fault, n: Head) -> Told
     ensures { result ≡ outside t fault n }
 {
@@ -47,7 +45,6 @@ fn outside(t: Telegram, fault: Fault, n: Head) -> Told
 }
 
 // 7. How the value lies to its limits.
-#[tactic(auto, unfolding(crate::specs::Way::complain))]
 fn range_check(t: Telegram, h: Head, n: Head) -> Told
     ensures { result ≡ ranged t h n (numbered t h n (obeyed t h n)) }
 {
@@ -79,7 +76,6 @@ fn locked(h: Head) -> bool
 }
 
 // 6. Locked; or a number is offered where the number in force is not 31.
-#[tactic(auto, unfolding(crate::specs::Way::complain))]
 fn lock_check(t: Telegram, h: Head, n: Head) -> Told
     ensures { result ≡ check6 t h n (check7 t h n (obeyed t h n)) }
 {
@@ -95,7 +91,7 @@ fn lock_check(t: Telegram, h: Head, n: Head) -> Told
 }
 
 // 5. Write to read only, read of write only, broadcast where none is allowed.
-#[tactic(auto, unfolding(crate::specs::Way::complain), using(crate::proofs::Addressed::broadcast_is))]
+#[tactic(auto, using(crate::proofs::Addressed::broadcast_is))]
 fn access_check(t: Telegram, h: Head, n: Head) -> Told
     ensures { result ≡ check5 t h n (check6 t h n (check7 t h n (obeyed t h n))) }
 {
@@ -112,7 +108,6 @@ fn access_check(t: Telegram, h: Head, n: Head) -> Told
 }
 
 // 4. Unknown parameter.
-#[tactic(auto, unfolding(crate::specs::Way::complain))]
 fn parameter_check(t: Telegram, h: Head, n: Head) -> Told
     ensures { result ≡ check4 t h n (check5 t h n (check6 t h n (check7 t h n (obeyed t h n)))) }
 {
@@ -123,7 +118,6 @@ fn parameter_check(t: Telegram, h: Head, n: Head) -> Told
 }
 
 // 3. Command above 02h.
-#[tactic(auto, unfolding(crate::specs::Way::complain))]
 fn command_check(t: Telegram, h: Head, n: Head) -> Told
     ensures { result ≡ check3 t h n (check4 t h n (check5 t h n (check6 t h n (check7 t h n (obeyed t h n))))) }
 {
@@ -145,7 +139,7 @@ fn node_check(t: Telegram, h: Head, n: Head) -> Told
 }
 
 // 1. Damaged: answered only at the number in force.
-#[tactic(auto, unfolding(crate::specs::Way::way, crate::specs::Way::complain))]
+#[tactic(auto, unfolding(crate::specs::Way::way))]
 pub(crate) fn way(t: Telegram, h: Head, n: Head, hit: u8) -> Told
     ensures { result ≡ way t h n hit }
 {

@@ -1,4 +1,6 @@
 // What a head answers to a telegram that was judged.
+#![tactic(auto)]
+
 mod word;
 
 ghost use Rattle.std.specs.Prelude.{◌≡◌, Bool};

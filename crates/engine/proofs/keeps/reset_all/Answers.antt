@@ -11,13 +11,13 @@ pub loop-i-init : goal.loop-i-init
 loop-i-init c = (omega arith, search rules, refl)
 
 pub loop-i-preserved : goal.loop-i-preserved
-loop-i-preserved c = let k = c in
-    let p : k.loop-i.i < 39 = omega arith in
-    let h : k.loop-i.i < length k.loop-i.v = omega arith in
-    (search rules, simp length-set k.loop-i.invariant.1, rw c.reset_value-word.ensures (reset_turn _ _ _ p h k.loop-i.invariant.2))
+loop-i-preserved c =
+    let p : c.loop-i.i < 39 = omega arith in
+    let h : c.loop-i.i < length c.loop-i.v = omega arith in
+    (search rules, simp length-set c.loop-i.invariant.1, rw c.reset_value-word.ensures (reset_turn _ _ _ p h c.loop-i.invariant.2))
 
 pub returns : goal.returns
-returns c = let k = c in
-    let p : 39 ≤ k.loop-i.i = omega arith in
-    let h : length k.loop-i.v ≤ k.loop-i.i = omega arith in
-    reset_end _ _ _ p h k.loop-i.invariant.2
+returns c =
+    let p : 39 ≤ c.loop-i.i = omega arith in
+    let h : length c.loop-i.v ≤ c.loop-i.i = omega arith in
+    reset_end _ _ _ p h c.loop-i.invariant.2
