@@ -9,6 +9,7 @@ use state::parts::{Head, Setting};
 use wire::fault::Fault;
 use wire::telegram::Telegram;
 
+#[tactic(auto, unfolding(crate::specs::Way::obeyed))]
 fn obey(t: Telegram, h: Head, n: Head) -> Told
     ensures { result ≡ obeyed t h n }
 {
@@ -19,6 +20,7 @@ fn obey(t: Telegram, h: Head, n: Head) -> Told
 }
 
 // 7. For 96h a number above the count.
+#[tactic(auto, unfolding(crate::specs::Way::complain))]
 fn number_check(t: Telegram, h: Head, n: Head) -> Told
     ensures { result ≡ numbered t h n (obeyed t h n) }
 {
@@ -31,6 +33,7 @@ fn number_check(t: Telegram, h: Head, n: Head) -> Told
 }
 
 // 7. Below low or above high: a value of D2h there drops the offer.
+#[tactic(auto, unfolding(crate::specs::Way::complain))]
 fn outside(t: Telegram, fault: Fault, n: Head) -> Told
     ensures { result ≡ outside t fault n }
 {
@@ -44,6 +47,7 @@ fn outside(t: Telegram, fault: Fault, n: Head) -> Told
 }
 
 // 7. How the value lies to its limits.
+#[tactic(auto, unfolding(crate::specs::Way::complain))]
 fn range_check(t: Telegram, h: Head, n: Head) -> Told
     ensures { result ≡ ranged t h n (numbered t h n (obeyed t h n)) }
 {
@@ -65,6 +69,7 @@ fn value_check(t: Telegram, h: Head, n: Head) -> Told
 }
 
 // 0Eh is 1 and the interlock closed.
+#[tactic(auto, unfolding(crate::specs::Addresses::place, crate::specs::Addresses::the39))]
 fn locked(h: Head) -> bool
     ensures { result ≡ locked h }
 {
@@ -74,6 +79,7 @@ fn locked(h: Head) -> bool
 }
 
 // 6. Locked; or a number is offered where the number in force is not 31.
+#[tactic(auto, unfolding(crate::specs::Way::complain))]
 fn lock_check(t: Telegram, h: Head, n: Head) -> Told
     ensures { result ≡ check6 t h n (check7 t h n (obeyed t h n)) }
 {
@@ -89,6 +95,7 @@ fn lock_check(t: Telegram, h: Head, n: Head) -> Told
 }
 
 // 5. Write to read only, read of write only, broadcast where none is allowed.
+#[tactic(auto, unfolding(crate::specs::Way::complain), using(crate::proofs::Addressed::broadcast_is))]
 fn access_check(t: Telegram, h: Head, n: Head) -> Told
     ensures { result ≡ check5 t h n (check6 t h n (check7 t h n (obeyed t h n))) }
 {
@@ -105,6 +112,7 @@ fn access_check(t: Telegram, h: Head, n: Head) -> Told
 }
 
 // 4. Unknown parameter.
+#[tactic(auto, unfolding(crate::specs::Way::complain))]
 fn parameter_check(t: Telegram, h: Head, n: Head) -> Told
     ensures { result ≡ check4 t h n (check5 t h n (check6 t h n (check7 t h n (obeyed t h n)))) }
 {
@@ -115,6 +123,7 @@ fn parameter_check(t: Telegram, h: Head, n: Head) -> Told
 }
 
 // 3. Command above 02h.
+#[tactic(auto, unfolding(crate::specs::Way::complain))]
 fn command_check(t: Telegram, h: Head, n: Head) -> Told
     ensures { result ≡ check3 t h n (check4 t h n (check5 t h n (check6 t h n (check7 t h n (obeyed t h n))))) }
 {
@@ -136,6 +145,7 @@ fn node_check(t: Telegram, h: Head, n: Head) -> Told
 }
 
 // 1. Damaged: answered only at the number in force.
+#[tactic(auto, unfolding(crate::specs::Way::way, crate::specs::Way::complain))]
 pub(crate) fn way(t: Telegram, h: Head, n: Head, hit: u8) -> Told
     ensures { result ≡ way t h n hit }
 {
