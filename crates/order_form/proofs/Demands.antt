@@ -11,7 +11,7 @@ use lib.ListN.{length, take}
 use lib.Seq.{get_or-take, length-take-le}
 use Rattle.head.proofs.Nodes.{node_within, node_may}
 use Rattle.order_form.specs.declared.row.Row.{Row}
-use Rattle.order_form.specs.declared.row.Column.TheVariants.{Serial, Number}
+use Rattle.order_form.specs.declared.row.Column.TheVariants.{Number}
 use Rattle.order_form.specs.declared.answer.Answer.{Answer}
 use Rattle.order_form.specs.declared.answer.Answer.TheVariants.{AllDiffer, Repeats, Refused}
 use Rattle.order_form.specs.declared.answer.Refusal.TheVariants.{Outside, TooMany}

@@ -1,4 +1,6 @@
 // The check of the order form: does any row repeat an earlier row's serial or node number.
+#![tactic(auto)]
+
 pub mod answer;
 pub mod form;
 pub mod row;

@@ -1,5 +1,5 @@
 -- `order_form::check_rows` meets its contract: a turn adds one row to the form, and the form of all rows answers what their list does.
-use mathlib.Core.Path.{◌≡◌, ap, ◌∙◌}
+use mathlib.Core.Path.{ap, ◌∙◌}
 use Rattle.order_form.specs.Held.{blank_of, check_of}
 use Rattle.order_form.proofs.Held.{add_next, add_done, added}
 use Rattle.order_form.proofs.check_rows.Goals as goal

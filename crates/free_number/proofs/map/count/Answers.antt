@@ -2,7 +2,6 @@
 use Prim.Native.Nat.{◌^◌, ◌<◌}
 use mathlib.Core.Path.{sym}
 use native.Mathlib.Omega.{arith}
-use borrow.Author.Rules.{rules}
 use Rattle.free_number.proofs.Maps.{count_words, sum_fits}
 use Rattle.free_number.proofs.map.count.Goals as goal
 

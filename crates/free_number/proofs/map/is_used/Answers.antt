@@ -2,7 +2,6 @@
 use Prim.Native.Nat.{◌^◌, ◌<◌}
 use mathlib.Core.Path.{◌∙◌, sym}
 use native.Mathlib.Omega.{arith}
-use borrow.Author.Rules.{rules}
 use Rattle.free_number.proofs.Maps.{used_low, used_high}
 use Rattle.free_number.proofs.map.is_used.Goals as goal
 

@@ -1,7 +1,6 @@
 -- `free_number::map::make` meets its contract: each answer by the tests that lead to it.
 use mathlib.Core.Path.{sym, ap, ◌∙◌}
 use mathlib.Core.Bool.{Bool, beq}
-use borrow.Author.Rules.{rules}
 use Rattle.head.proofs.Nodes.{node_within}
 use Rattle.free_number.proofs.map.make.Goals as goal
 

@@ -1,7 +1,6 @@
 -- `free_number::map::turn` meets its contract: a number up to 64 is in the lower word, any other in the upper.
 use Prim.Native.Nat.{◌^◌, ◌<◌}
 use native.Mathlib.Omega.{arith}
-use borrow.Author.Rules.{rules}
 use Rattle.free_number.proofs.Maps.{flipped_low, flipped_high}
 use Rattle.free_number.proofs.map.turn.Goals as goal
 

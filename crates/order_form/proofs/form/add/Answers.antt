@@ -1,6 +1,5 @@
 -- `order_form::form::add` meets its contract: the test that led to a return says which case of the definition holds.
 use native.Mathlib.Numerals.{add-one}
-use borrow.Author.Rules.{rules}
 use borrow.Author.Tests.{lt-ltb, le-ltb}
 use Rattle.order_form.specs.Held.{add_of}
 use Rattle.order_form.proofs.form.add.Goals as goal

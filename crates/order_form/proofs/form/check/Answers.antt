@@ -1,6 +1,5 @@
 -- `order_form::form::check` meets its contract: the one test is the definition's.
 use mathlib.Core.Path.{◌∙◌}
-use borrow.Author.Rules.{rules}
 use borrow.Author.Tests.{lt-ltb, le-ltb}
 use Rattle.order_form.specs.Check.{most}
 use Rattle.order_form.specs.Held.{check_of}

@@ -1,9 +1,7 @@
 -- `order_form::search::first_repeat` meets its contract: no row before the loop's place repeats one.
-use Prim.Native.Nat.{◌≤◌, ◌-◌}
 use mathlib.Core.Path.{refl}
 use native.Mathlib.Omega.{arith}
-use borrow.Author.Rules.{rules}
-use Rattle.order_form.proofs.Repeats.{Apart, serial_here, number_here, next, ends}
+use Rattle.order_form.proofs.Repeats.{serial_here, number_here, next, ends}
 use Rattle.order_form.proofs.search.first_repeat.Goals as goal
 
 pub loop-k-init : goal.loop-k-init

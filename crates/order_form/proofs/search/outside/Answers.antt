@@ -1,11 +1,9 @@
 -- `order_form::search::outside` meets its contract: no row before the loop's place is outside.
-use Prim.Native.Nat.{◌≤◌, ◌-◌}
-use mathlib.Core.Path.{◌≡◌, sym, ◌∙◌, ap}
+use mathlib.Core.Path.{sym, ◌∙◌, ap}
 use mathlib.Core.Bool.{not}
 use native.Mathlib.Omega.{arith}
-use borrow.Author.Rules.{rules}
 use Rattle.order_form.specs.Rows.{is_outside}
-use Rattle.order_form.proofs.First.{Passed, starts, here, next, ends}
+use Rattle.order_form.proofs.First.{starts, here, next, ends}
 use Rattle.order_form.proofs.search.outside.Goals as goal
 
 pub loop-i-init : goal.loop-i-init

@@ -1,11 +1,7 @@
 -- `order_form::search::outside` meets its contract: no row before the loop's place is outside.
 use Prim.Native.Nat.{◌≤◌, ◌-◌}
-use mathlib.Core.Path.{sym, ◌∙◌, ap}
-use mathlib.Core.Bool.{not}
-use native.Mathlib.Omega.{arith}
-use borrow.Author.Rules.{rules}
 use Rattle.order_form.specs.Rows.{is_outside}
-use Rattle.order_form.proofs.First.{Passed, starts, here, next, ends}
+use Rattle.order_form.proofs.First.{Passed}
 use Rattle.order_form.proofs.search.outside.Given as goal
 
 abbrev pub invariant-loop-i : goal.invariant-loop-i

@@ -1,11 +1,9 @@
 -- `order_form::search::place` meets its contract: no row before the loop's place has the value in the column.
-use Prim.Native.Nat.{◌≤◌, ◌-◌}
 use mathlib.Core.Path.{sym, ◌∙◌}
 use native.Mathlib.Omega.{arith}
-use borrow.Author.Rules.{rules}
 use borrow.Author.Tests.{eq-eqb, ne_eqb}
 use Rattle.order_form.specs.Rows.{has}
-use Rattle.order_form.proofs.First.{Passed, starts, here, next, ends}
+use Rattle.order_form.proofs.First.{starts, here, next, ends}
 use Rattle.order_form.proofs.search.place.Goals as goal
 
 pub loop-i-init : goal.loop-i-init

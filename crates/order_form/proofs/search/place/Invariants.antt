@@ -1,11 +1,7 @@
 -- `order_form::search::place` meets its contract: no row before the loop's place has the value in the column.
 use Prim.Native.Nat.{◌≤◌, ◌-◌}
-use mathlib.Core.Path.{sym, ◌∙◌}
-use native.Mathlib.Omega.{arith}
-use borrow.Author.Rules.{rules}
-use borrow.Author.Tests.{eq-eqb, ne_eqb}
 use Rattle.order_form.specs.Rows.{has}
-use Rattle.order_form.proofs.First.{Passed, starts, here, next, ends}
+use Rattle.order_form.proofs.First.{Passed}
 use Rattle.order_form.proofs.search.place.Given as goal
 
 abbrev pub invariant-loop-i : goal.invariant-loop-i
