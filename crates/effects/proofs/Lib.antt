@@ -1,5 +1,4 @@
 pub mod Resets
-pub mod Rest
 pub mod Values
 pub mod Keeps
 pub mod Turns

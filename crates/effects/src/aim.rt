@@ -8,6 +8,7 @@ use state::parts::{Measurement, Setting, Targets};
 use state::{mode, status};
 
 // No set point, as after a restart.
+#[tactic(auto, unfolding(crate::specs::Aimed::no_targets))]
 pub fn no_targets() -> Targets
     ensures { result ≡ no_targets }
 {
@@ -24,6 +25,7 @@ pub fn no_targets() -> Targets
 }
 
 // The static bit is set where status bit 5 holds, but for alpha-numeric display, and else stays.
+#[tactic(auto, unfolding(crate::specs::Aimed::settled_of))]
 pub fn settled(values: [u32; 39], g: Measurement, t: Targets) -> Targets
     ensures { result ≡ settled_of values g t }
 {
@@ -34,6 +36,7 @@ pub fn settled(values: [u32; 39], g: Measurement, t: Targets) -> Targets
 }
 
 // FBh: the value, its validity by bit 2, the static bit cleared by bit 4, the acknowledgement withdrawn.
+#[tactic(auto, unfolding(crate::specs::Aimed::first_aimed))]
 fn aim_first(value: u32, word: u16, t: Targets) -> Targets
     ensures { result ≡ first_aimed value word t }
 {
@@ -47,6 +50,7 @@ fn aim_first(value: u32, word: u16, t: Targets) -> Targets
 }
 
 // FFh: the value, its validity by bit 9, the static bit cleared by bit 4, the acknowledgement withdrawn.
+#[tactic(auto, unfolding(crate::specs::Aimed::second_aimed))]
 fn aim_second(value: u32, word: u16, t: Targets) -> Targets
     ensures { result ≡ second_aimed value word t }
 {
@@ -60,6 +64,7 @@ fn aim_second(value: u32, word: u16, t: Targets) -> Targets
 }
 
 // Then bits 10 and 6 acknowledge set points 1 and 2 where they are valid. Nothing is acknowledged but in alpha-numeric display.
+#[tactic(auto, unfolding(crate::specs::Aimed::given_of))]
 fn given(display: bool, word: u16, t: Targets) -> Targets
     ensures { result ≡ given_of display word t }
 {
@@ -70,6 +75,7 @@ fn given(display: bool, word: u16, t: Targets) -> Targets
 }
 
 // Whether a valid set point lacks its acknowledgement.
+#[tactic(auto, unfolding(crate::specs::Aimed::lacking_of))]
 pub fn lacking(t: Targets) -> bool
     ensures { result ≡ lacking_of t }
 {
@@ -77,6 +83,7 @@ pub fn lacking(t: Targets) -> bool
 }
 
 // All valid set points are acknowledged, as a key does it.
+#[tactic(auto, unfolding(crate::specs::Aimed::all_given_of))]
 pub fn all_given(t: Targets) -> Targets
     ensures { result ≡ all_given_of t }
 {
@@ -86,6 +93,7 @@ pub fn all_given(t: Targets) -> Targets
     n
 }
 
+#[tactic(auto, unfolding(crate::specs::Aimed::cleared_of))]
 fn cleared(t: Targets) -> Targets
     ensures { result ≡ cleared_of t }
 {
@@ -95,6 +103,7 @@ fn cleared(t: Targets) -> Targets
 }
 
 // Whether alpha-numeric display is neither entered nor left, by 28h before and after.
+#[tactic(auto, unfolding(crate::specs::Aimed::stays_of))]
 fn stays(before: u32, after: u32) -> bool
     ensures { result ≡ stays_of before after }
 {
@@ -106,6 +115,7 @@ fn stays(before: u32, after: u32) -> bool
 
 // By 28h before and after a write, a reset or a sheet: entering or leaving alpha-numeric display leaves no set point valid or acknowledged, and no
 // static bit.
+#[tactic(auto, unfolding(crate::specs::Aimed::turned_of))]
 pub fn turned(before: u32, after: u32, t: Targets) -> Targets
     ensures { result ≡ turned_of before after t }
 {
@@ -119,6 +129,7 @@ pub fn turned(before: u32, after: u32, t: Targets) -> Targets
     n
 }
 
+#[tactic(auto, unfolding(crate::specs::Aimed::targets_by))]
 pub fn targets_by(d: Deed, values: [u32; 39], g: Measurement, t: Targets) -> Targets
     ensures { result ≡ targets_by d values g t }
 {

@@ -10,6 +10,7 @@ use state::parts::Faults;
 use wire::fault::Fault;
 
 // A raised error becomes the pending one and enters the error memory.
+#[tactic(auto, unfolding(crate::specs::Faults::raised_of))]
 pub fn raised(f: Faults, code: u16) -> Faults
     ensures { result ≡ raised_of f code }
 {
@@ -22,6 +23,7 @@ pub fn raised(f: Faults, code: u16) -> Faults
 
 // A telegram by the exclusive-or of its ten bytes: a sound one ends the row of damaged ones. A damaged one's is kept in the place of the last,
 // and the third in a row raises an error.
+#[tactic(auto, unfolding(crate::specs::Faults::counted_of))]
 pub fn counted(hit: u8, f: Faults) -> Faults
     ensures { result ≡ counted_of hit f }
 {
@@ -40,6 +42,7 @@ pub fn counted(hit: u8, f: Faults) -> Faults
 }
 
 // Every error reply enters the input list.
+#[tactic(auto, unfolding(crate::specs::Faults::complained_of))]
 pub fn complained(v: Verdict, f: Faults) -> Faults
     ensures { result ≡ complained_of v f }
 {
@@ -56,6 +59,7 @@ pub fn complained(v: Verdict, f: Faults) -> Faults
 }
 
 // Bit 5 acknowledges the error if the last taken word had it 0.
+#[tactic(auto, unfolding(crate::specs::Faults::acknowledged_of))]
 fn acknowledged(word: u16, last: u16, f: Faults) -> Faults
     ensures { result ≡ acknowledged_of word last f }
 {
@@ -67,6 +71,7 @@ fn acknowledged(word: u16, last: u16, f: Faults) -> Faults
 }
 
 // A restart keeps the error memory alone.
+#[tactic(auto, unfolding(crate::specs::Faults::restarted_faults))]
 pub fn restarted(f: Faults) -> Faults
     ensures { result ≡ restarted_faults f }
 {
@@ -80,6 +85,7 @@ pub fn restarted(f: Faults) -> Faults
 }
 
 // `last` is the control word that was taken before.
+#[tactic(auto, unfolding(crate::specs::Faults::faults_by))]
 pub fn faults_by(d: Deed, last: u16, f: Faults) -> Faults
     ensures { result ≡ faults_by d last f }
 {

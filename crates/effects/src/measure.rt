@@ -7,6 +7,7 @@ use state::parts::{Measurement, Setting};
 use state::position;
 
 // Calibration makes m the zero and adopts 1Fh.
+#[tactic(auto, unfolding(crate::specs::Measured::calibrated_of))]
 pub fn calibrated(values: [u32; 39], g: Measurement) -> Measurement
     ensures { result ≡ calibrated_of values g }
 {
@@ -18,6 +19,7 @@ pub fn calibrated(values: [u32; 39], g: Measurement) -> Measurement
 }
 
 // What FEh shows is kept.
+#[tactic(auto, unfolding(crate::specs::Measured::frozen_of))]
 fn frozen(values: [u32; 39], g: Measurement) -> Measurement
     ensures { result ≡ frozen_of values g }
 {
@@ -29,6 +31,7 @@ fn frozen(values: [u32; 39], g: Measurement) -> Measurement
     n
 }
 
+#[tactic(auto, unfolding(crate::specs::Measured::released_of))]
 fn released(g: Measurement) -> Measurement
     ensures { result ≡ released_of g }
 {
@@ -39,6 +42,7 @@ fn released(g: Measurement) -> Measurement
 }
 
 // A restart keeps calibration and the last measurement.
+#[tactic(auto, unfolding(crate::specs::Measured::released_of, crate::specs::Measured::restarted_measurement))]
 pub fn restarted(g: Measurement) -> Measurement
     ensures { result ≡ restarted_measurement g }
 {
@@ -49,6 +53,7 @@ pub fn restarted(g: Measurement) -> Measurement
 }
 
 // A new measurement.
+#[tactic(auto, unfolding(crate::specs::Measured::moved_of))]
 pub fn moved(m: i32, g: Measurement) -> Measurement
     ensures { result ≡ moved_of m g }
 {
@@ -57,6 +62,7 @@ pub fn moved(m: i32, g: Measurement) -> Measurement
     n
 }
 
+#[tactic(auto, unfolding(crate::specs::Measured::measurement_by))]
 pub fn measurement_by(d: Deed, values: [u32; 39], g: Measurement) -> Measurement
     ensures { result ≡ measurement_by d values g }
 {

@@ -6,6 +6,7 @@ use crate::{aim, errors, measure, store};
 use state::parts::{Ear, Faults, Head, Measurement, Monitor, Setting, Stored};
 
 // No bytes gathered.
+#[tactic(auto, unfolding(crate::specs::Restart::empty_ear))]
 pub fn empty_ear(at: u32) -> Ear
     ensures { result ≡ empty_ear at }
 {
@@ -17,6 +18,7 @@ pub fn empty_ear(at: u32) -> Ear
 }
 
 // The bus timeout is not running.
+#[tactic(auto, unfolding(crate::specs::Restart::stopped))]
 pub fn stopped_monitor() -> Monitor
     ensures { result ≡ stopped }
 {
@@ -27,6 +29,7 @@ pub fn stopped_monitor() -> Monitor
 }
 
 // A0h 9 and power.
+#[tactic(auto, unfolding(crate::specs::Restart::restarted_of))]
 pub fn restarted(h: Head) -> Head
     ensures { result ≡ restarted_of h }
 {
@@ -42,6 +45,7 @@ pub fn restarted(h: Head) -> Head
 }
 
 // Auto-ID: the number that is offered is stored, and the head restarts last.
+#[tactic(auto, unfolding(crate::specs::Restart::adopted_of))]
 pub fn adopted(h: Head) -> Head
     ensures { result ≡ adopted_of h }
 {
@@ -51,6 +55,7 @@ pub fn adopted(h: Head) -> Head
 }
 
 // The delivery values, 00h being the number given.
+#[tactic(auto, unfolding(crate::specs::Restart::delivered_of))]
 fn delivered(node: u32) -> [u32; 39]
     ensures { result ≡ delivered_of node }
 {
@@ -60,6 +65,7 @@ fn delivered(node: u32) -> [u32; 39]
 }
 
 // A new head is as after a restart, its error memory empty.
+#[tactic(auto, unfolding(crate::specs::Restart::fresh_of))]
 pub fn fresh(node: u32, serial: u32) -> Head
     ensures { result ≡ fresh_of node serial }
 {

@@ -6,6 +6,7 @@ use judge::deed::Deed;
 use state::parts::{Setting, Stored};
 
 // 0Eh is 1 and the interlock closed.
+#[tactic(auto, unfolding(crate::specs::Stored::locked_of))]
 pub fn locked(s: Stored) -> bool
     ensures { result ≡ locked_of s }
 {
@@ -14,6 +15,7 @@ pub fn locked(s: Stored) -> bool
 }
 
 // The value at a place after the system command: its delivery value, where the command resets it.
+#[tactic(auto, unfolding(crate::specs::Stored::reset_value))]
 fn reset_value(command: u32, i: usize, word: u32) -> u32
     ensures { result ≡ reset_value command i word }
 {
@@ -25,6 +27,7 @@ fn reset_value(command: u32, i: usize, word: u32) -> u32
 }
 
 // All 39 after the system command.
+#[tactic(auto, unfolding(crate::specs::Stored::reset_of))]
 pub(crate) fn reset(values: [u32; 39], command: u32) -> [u32; 39]
     ensures { result ≡ reset_of command values }
 {
@@ -39,6 +42,7 @@ pub(crate) fn reset(values: [u32; 39], command: u32) -> [u32; 39]
 }
 
 // The number that is offered goes to 00h.
+#[tactic(auto, unfolding(crate::specs::Stored::adopted_stored))]
 pub(crate) fn adopted(s: Stored) -> Stored
     ensures { result ≡ adopted_stored s }
 {
@@ -48,6 +52,7 @@ pub(crate) fn adopted(s: Stored) -> Stored
 }
 
 // A restart takes 00h and 01h into force, and drops an offer.
+#[tactic(auto, unfolding(crate::specs::Stored::restarted_stored))]
 pub fn restarted(s: Stored) -> Stored
     ensures { result ≡ restarted_stored s }
 {
@@ -59,6 +64,7 @@ pub fn restarted(s: Stored) -> Stored
     n
 }
 
+#[tactic(auto, unfolding(crate::specs::Stored::stored_by))]
 pub fn stored_by(d: Deed, s: Stored) -> Stored
     ensures { result ≡ stored_by d s }
 {

@@ -3,5 +3,3 @@ pub mod Shown
 pub mod Addressed
 pub mod Places
 pub mod Resets
-pub mod Errors
-pub mod Ranges

@@ -8,6 +8,7 @@ use state::parts::{Head, Setting, Targets};
 use state::{mode, status};
 
 // Alpha-numeric display, mode 3 of 28h.
+#[tactic(auto, unfolding(state::specs::Mode::is_display, crate::specs::Addresses::place, crate::specs::Addresses::the39))]
 fn displays(h: Head) -> bool
     ensures { result ≡ displays h }
 {
@@ -17,6 +18,7 @@ fn displays(h: Head) -> bool
 }
 
 // Bit 5 acknowledges the error if the last taken word had it 0.
+#[tactic(auto, unfolding(crate::specs::Does::acknowledge))]
 fn acknowledge(word: u16, h: Head) -> Head
     ensures { result ≡ acknowledge word h }
 {
@@ -40,6 +42,7 @@ fn give(mode3: bool, word: u16, t: Targets) -> Targets
 }
 
 // FBh: its validity by bit 2; bit 4 clears the static bit.
+#[tactic(auto, unfolding(crate::specs::Does::aim_first))]
 pub(crate) fn aim_first(value: u32, word: u16, h: Head) -> Head
     ensures { result ≡ aim_first value word h }
 {
@@ -57,6 +60,7 @@ pub(crate) fn aim_first(value: u32, word: u16, h: Head) -> Head
 }
 
 // The static bit is set where A is near the valid set point 2, but in mode 3.
+#[tactic(auto, using(crate::proofs::Shown::settles_is))]
 fn settle(h: Head) -> Head
     ensures { result ≡ settle h }
 {
@@ -71,6 +75,7 @@ fn settle(h: Head) -> Head
 }
 
 // FFh: its validity by bit 9; bit 4 clears the static bit before the new set point may set it.
+#[tactic(auto, unfolding(crate::specs::Does::aim_second))]
 pub(crate) fn aim_second(value: u32, word: u16, h: Head) -> Head
     ensures { result ≡ aim_second value word h }
 {

@@ -7,6 +7,7 @@ use state::parts::{Ear, Head, Measurement, Monitor, Setting, Targets};
 use state::{errors, position};
 
 // A8h: 1 opens the interlock, 0 closes it.
+#[tactic(auto, unfolding(crate::specs::Does::unlock))]
 pub(crate) fn unlock(b: bool, h: Head) -> Head
     ensures { result ≡ unlock b h }
 {
@@ -16,6 +17,7 @@ pub(crate) fn unlock(b: bool, h: Head) -> Head
 }
 
 // D2h: the number is offered; 0 drops an offer.
+#[tactic(auto, unfolding(crate::specs::Does::offer))]
 pub(crate) fn offer(number: u32, h: Head) -> Head
     ensures { result ≡ offer number h }
 {
@@ -25,6 +27,7 @@ pub(crate) fn offer(number: u32, h: Head) -> Head
 }
 
 // A0h 7 and A7h: m is the zero, and 1Fh is adopted.
+#[tactic(auto, unfolding(crate::specs::Does::calibrate, crate::specs::Addresses::place, crate::specs::Addresses::the39))]
 pub(crate) fn calibrate(h: Head) -> Head
     ensures { result ≡ calibrate h }
 {
@@ -40,6 +43,7 @@ pub(crate) fn calibrate(h: Head) -> Head
 }
 
 // AAh: what FEh would now show unfrozen is kept.
+#[tactic(auto, unfolding(crate::specs::Does::freeze), using(crate::proofs::Shown::current_is))]
 pub(crate) fn freeze(h: Head) -> Head
     ensures { result ≡ freeze h }
 {
@@ -66,6 +70,7 @@ fn released(g: Measurement) -> Measurement
 }
 
 // A read of FEh releases it.
+#[tactic(auto, unfolding(crate::specs::Does::release))]
 pub(crate) fn release(h: Head) -> Head
     ensures { result ≡ release h }
 {
@@ -75,6 +80,7 @@ pub(crate) fn release(h: Head) -> Head
 }
 
 // A0h 8 empties the error memory.
+#[tactic(auto, unfolding(crate::specs::Does::forget_errors))]
 pub(crate) fn forget(h: Head) -> Head
     ensures { result ≡ forget_errors h }
 {
@@ -87,6 +93,7 @@ pub(crate) fn forget(h: Head) -> Head
 }
 
 // A read of FAh clears the static bit.
+#[tactic(auto, unfolding(crate::specs::Does::clear_static))]
 pub(crate) fn clear(h: Head) -> Head
     ensures { result ≡ clear_static h }
 {
@@ -107,6 +114,7 @@ pub(crate) fn none(at: u32) -> Ear
 }
 
 // A0h 9 takes 00h and 01h into force, and clears all that a restart does not keep.
+#[tactic(auto, unfolding(crate::specs::Does::restart, crate::specs::Addresses::place, crate::specs::Addresses::the39))]
 pub(crate) fn restart(h: Head) -> Head
     ensures { result ≡ restart h }
 {

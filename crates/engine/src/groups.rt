@@ -8,6 +8,7 @@ use rows::range::Range;
 use rows::table;
 use rows::table::Place;
 
+#[tactic(auto, using(crate::proofs::Addressed::known_is))]
 pub(crate) fn is_known(address: u8) -> bool
     ensures { result ≡ is_known address }
 {
@@ -19,6 +20,7 @@ pub(crate) fn is_known(address: u8) -> bool
     }
 }
 
+#[tactic(auto, using(crate::proofs::Addressed::read_only_is))]
 pub(crate) fn is_read_only(address: u8) -> bool
     ensures { result ≡ is_read_only address }
 {
@@ -30,6 +32,7 @@ pub(crate) fn is_read_only(address: u8) -> bool
     }
 }
 
+#[tactic(auto, using(crate::proofs::Addressed::write_only_is))]
 pub(crate) fn is_write_only(address: u8) -> bool
     ensures { result ≡ is_write_only address }
 {
@@ -42,6 +45,7 @@ pub(crate) fn is_write_only(address: u8) -> bool
 }
 
 // What the interlock covers: the 39 and A0h, and never A8h.
+#[tactic(auto, using(crate::proofs::Addressed::stored_is))]
 pub(crate) fn is_covered(address: u8) -> bool
     ensures { result ≡ (is_stored address || eqb address 0xA0) }
 {
@@ -52,6 +56,7 @@ pub(crate) fn is_covered(address: u8) -> bool
 }
 
 // Below low, above high, in between and not listed, or right.
+#[tactic(auto, using(crate::proofs::Addressed::range_is))]
 pub(crate) fn range_of(address: u8, word: u32) -> Range
     ensures { result
         ≡ cond (lt_z (number_in address word) (limits_of address).low) Range.Low

@@ -19,6 +19,7 @@ fn raised(code: u16, f: Faults) -> Faults
 }
 
 // Check 1 for whomever: a sound telegram ends the row of damaged ones, and the third of a row raises error 0080h.
+#[tactic(auto, unfolding(crate::specs::Way::counted))]
 fn counted(hit: u8, f: Faults) -> Faults
     ensures { result ≡ counted hit f }
 {
@@ -37,6 +38,7 @@ fn counted(hit: u8, f: Faults) -> Faults
 }
 
 // A sound telegram starts the monitor.
+#[tactic(auto, unfolding(crate::specs::Way::hearing))]
 pub(crate) fn hearing(hit: u8, at: u32, h: Head) -> Head
     ensures { result ≡ hearing hit at h }
 {

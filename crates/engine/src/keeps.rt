@@ -28,6 +28,7 @@ fn alike(a: bool, b: bool) -> bool
 }
 
 // The head with these values. Entering or leaving mode 3 of 28h leaves no valid set point.
+#[tactic(auto, unfolding(crate::specs::Does::with_the39, state::specs::Mode::is_display, crate::specs::Addresses::place, crate::specs::Addresses::the39))]
 fn keep(values: [u32; 39], h: Head) -> Head
     ensures { result ≡ with_the39 values h }
 {
@@ -93,6 +94,7 @@ fn reset_all(command: u32, values: [u32; 39]) -> [u32; 39]
 }
 
 // A0h 1, 2 and 5.
+#[tactic(auto, unfolding(crate::specs::Does::reset))]
 pub(crate) fn reset(command: u32, h: Head) -> Head
     ensures { result ≡ reset command h }
 {

@@ -1,5 +1,7 @@
 // A whole telegram, a second way: a head's answer to ten bytes at once, straight down document 01. Nothing of the crates judge, effects, reply or
 // head is used.
+#![tactic(auto)]
+
 mod aims;
 mod control;
 mod does;
@@ -63,6 +65,7 @@ pub struct Answered {
     pub reply: [u8; 10],
 }
 
+#[tactic(auto, unfolding(crate::specs::Answer::told_of))]
 fn tell(h: Head, ten: [u8; 10], at: u32) -> Told
     ensures { result ≡ told_of h ten at }
 {
@@ -101,6 +104,7 @@ fn refused(h: Head) -> Answered
 }
 
 // What a head answers to ten bytes at once, all of which have come when the last came.
+#[tactic(auto, unfolding(crate::specs::Answer::answer_of))]
 pub fn answer(h: Head, ten: [u8; 10], at: u32) -> Answered
     ensures { result ≡ answer_of h ten at }
 {

@@ -9,6 +9,7 @@ use state::parts::Head;
 use state::status;
 use wire::telegram::Telegram;
 
+#[tactic(auto, unfolding(crate::specs::Way::read, crate::specs::Addresses::the39), using(crate::proofs::Shown::status_is))]
 pub(crate) fn read(t: Telegram, h: Head, n: Head) -> Told
     ensures { result ≡ read t h n }
 {

@@ -9,6 +9,7 @@ use wire::fault::Fault;
 use wire::telegram;
 use wire::telegram::Telegram;
 
+#[tactic(auto, unfolding(crate::specs::Way::silent))]
 pub(crate) fn silent(after: Head) -> Told
     ensures { result ≡ silent after }
 {
@@ -20,6 +21,7 @@ pub(crate) fn silent(after: Head) -> Told
 }
 
 // With the status word of a head before.
+#[tactic(auto, unfolding(crate::specs::Way::reply), using(crate::proofs::Shown::status_is))]
 pub(crate) fn answer_old(t: Telegram, before: Head, value: u32, after: Head) -> Told
     ensures { result ≡ reply t t.parameter before value after }
 {
@@ -38,6 +40,7 @@ pub(crate) fn answer_old(t: Telegram, before: Head, value: u32, after: Head) -> 
 }
 
 // With the status word after.
+#[tactic(auto, unfolding(crate::specs::Way::reply), using(crate::proofs::Shown::status_is))]
 fn reply(t: Telegram, parameter: u8, value: u32, after: Head) -> Told
     ensures { result ≡ reply t parameter after value after }
 {
@@ -62,6 +65,7 @@ pub(crate) fn answer(t: Telegram, value: u32, after: Head) -> Told
 }
 
 // An error reply has FDh as parameter and enters the input list.
+#[tactic(auto, unfolding(crate::specs::Way::complain))]
 pub(crate) fn complain(t: Telegram, fault: Fault, h: Head) -> Told
     ensures { result ≡ complain t fault h }
 {

@@ -18,6 +18,7 @@ pub(crate) fn stored(values: [u32; 39], i: usize) -> u32
 }
 
 // What FEh would show unfrozen.
+#[tactic(auto, using(crate::proofs::Shown::current_is))]
 fn current(h: Head) -> u32
     ensures { result ≡ word_of (current h) }
 {
@@ -39,6 +40,7 @@ pub(crate) fn position(h: Head) -> u32
 }
 
 // FCh, and FFh with 03h 2: the differential value for a set point.
+#[tactic(auto, using(crate::proofs::Shown::differential_is))]
 pub(crate) fn differential(h: Head, target: u32) -> u32
     ensures { result ≡ word_of (differential h target) }
 {
@@ -74,6 +76,7 @@ pub(crate) fn input_error(t: Telegram, h: Head) -> u32
 }
 
 // The answer to a write of FFh, by 03h: the set point, the current value, or the differential value.
+#[tactic(auto, unfolding(crate::specs::Addresses::place, crate::specs::Addresses::the39))]
 pub(crate) fn response(t: Telegram, h: Head) -> u32
     ensures { result ≡ response t h }
 {

@@ -9,6 +9,7 @@ use state::parts::{Head, Setting};
 use wire::fault::Fault;
 use wire::telegram::Telegram;
 
+#[tactic(auto, unfolding(crate::specs::Way::obeyed))]
 fn obey(t: Telegram, h: Head, n: Head) -> Told
     ensures { result ≡ obeyed t h n }
 {
@@ -65,6 +66,7 @@ fn value_check(t: Telegram, h: Head, n: Head) -> Told
 }
 
 // 0Eh is 1 and the interlock closed.
+#[tactic(auto, unfolding(crate::specs::Addresses::place, crate::specs::Addresses::the39))]
 fn locked(h: Head) -> bool
     ensures { result ≡ locked h }
 {
@@ -89,6 +91,7 @@ fn lock_check(t: Telegram, h: Head, n: Head) -> Told
 }
 
 // 5. Write to read only, read of write only, broadcast where none is allowed.
+#[tactic(auto, using(crate::proofs::Addressed::broadcast_is))]
 fn access_check(t: Telegram, h: Head, n: Head) -> Told
     ensures { result ≡ check5 t h n (check6 t h n (check7 t h n (obeyed t h n))) }
 {
@@ -136,6 +139,7 @@ fn node_check(t: Telegram, h: Head, n: Head) -> Told
 }
 
 // 1. Damaged: answered only at the number in force.
+#[tactic(auto, unfolding(crate::specs::Way::way))]
 pub(crate) fn way(t: Telegram, h: Head, n: Head, hit: u8) -> Told
     ensures { result ≡ way t h n hit }
 {

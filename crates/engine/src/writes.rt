@@ -29,6 +29,7 @@ fn done_old(t: Telegram, before: Head, value: u32, after: Head) -> Told
 }
 
 // A0h: 7 calibrates, 8 empties the error memory, 9 replies and restarts, 1, 2 and 5 reset.
+#[tactic(auto, unfolding(crate::specs::Way::system))]
 fn system(t: Telegram, h: Head, n: Head) -> Told
     ensures { result ≡ system t h n }
 {
@@ -45,6 +46,7 @@ fn system(t: Telegram, h: Head, n: Head) -> Told
     done(t, keeps::reset(command, n))
 }
 
+#[tactic(auto, unfolding(crate::specs::Way::write, crate::specs::Does::store, crate::specs::Addresses::the39))]
 pub(crate) fn write(t: Telegram, h: Head, n: Head) -> Told
     ensures { result ≡ write t h n }
 {

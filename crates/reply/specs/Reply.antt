@@ -1,7 +1,7 @@
 -- What a head answers (document 01, "Ten bytes", "A telegram's way through the head", "What each one does"; D2h: document 02, request (ii)).
 -- All read data are those of the head before the telegram's effects; the status word is that of Word.
 -- Assumes nothing.
-use Rattle.std.specs.Prelude.{ℕ, ◌+◌, ◌-◌, ◌*◌, Bool, true, false, cond, not, ◌&&◌, List, eqb, replicate}
+use Rattle.std.specs.Prelude.{ℕ, ◌+◌, ◌-◌, ◌*◌, true, false, cond, not, ◌&&◌, List, eqb, replicate}
 use Rattle.wire.specs.declared.telegram.Telegram.{Telegram}
 use Rattle.wire.specs.Word.{byte0}
 use Rattle.wire.specs.Telegram.{bytes_of}

@@ -1,4 +1,6 @@
 // What a head answers to a telegram that was judged.
+#![tactic(auto)]
+
 mod word;
 
 ghost use Rattle.std.specs.Prelude.{◌≡◌, Bool};
@@ -23,6 +25,7 @@ pub struct Said {
 }
 
 // 96h: its number in the first data byte; 0 gives the count, n the nth oldest code.
+#[tactic(auto, unfolding(crate::specs::Reply::input_of))]
 fn input(list: ErrorList, number: u8) -> u32
     ensures { result ≡ input_of list number }
 {
@@ -34,6 +37,7 @@ fn input(list: ErrorList, number: u8) -> u32
 }
 
 // FEh: the kept value, or the value of now.
+#[tactic(auto, unfolding(crate::specs::Reply::position_word))]
 fn position_word(values: [u32; 39], g: Measurement) -> u32
     ensures { result ≡ position_word values g }
 {
@@ -76,6 +80,7 @@ fn shows(s: Shown, h: Head, value: u32) -> u32
 }
 
 // The data of a read.
+#[tactic(auto, unfolding(crate::specs::Reply::read_of))]
 fn read(k: Kind, h: Head, value: u32) -> u32
     ensures { result ≡ read_of k h value }
 {
@@ -110,6 +115,7 @@ fn set_point_answer(h: Head, value: u32) -> u32
 }
 
 // The data of a write's answer: the value written, save for FFh.
+#[tactic(auto, unfolding(crate::specs::Reply::answer_of))]
 fn answer(address: u8, h: Head, value: u32) -> u32
     ensures { result ≡ answer_of address h value }
 {
@@ -119,6 +125,7 @@ fn answer(address: u8, h: Head, value: u32) -> u32
     value
 }
 
+#[tactic(auto, unfolding(crate::specs::Reply::silence))]
 fn silent() -> Said
     ensures { result ≡ silence }
 {
@@ -129,6 +136,7 @@ fn silent() -> Said
 }
 
 // A reply copies command, node and parameter.
+#[tactic(auto, unfolding(crate::specs::Reply::said))]
 fn saying(t: Telegram, parameter: u8, word: u16, value: u32) -> Said
     ensures { result ≡ said t parameter word value }
 {
@@ -146,6 +154,7 @@ fn saying(t: Telegram, parameter: u8, word: u16, value: u32) -> Said
 }
 
 // Of an obeyed telegram: a read's data, a write's answer, and no answer to a broadcast, nor to a number that is offered by D2h.
+#[tactic(auto, unfolding(crate::specs::Reply::value_reply))]
 fn value_reply(j: Judged, h: Head, word: u16) -> Said
     ensures { result ≡ value_reply j h word }
 {
@@ -164,6 +173,7 @@ fn value_reply(j: Judged, h: Head, word: u16) -> Said
 }
 
 // The reply to a telegram, by the head before its effects and the head after them. An error reply has FDh as parameter.
+#[tactic(auto, unfolding(crate::specs::Reply::reply_of, crate::specs::Reply::error_reply))]
 pub fn reply_to(j: Judged, before: Head, after: Head) -> Said
     ensures { result ≡ reply_of j before after }
 {
@@ -181,6 +191,7 @@ pub fn reply_to(j: Judged, before: Head, after: Head) -> Said
 }
 
 // Auto-ID: what a head sends that adopts the number it was offered, a write's reply with this status word.
+#[tactic(auto, unfolding(crate::specs::Reply::adoption_of))]
 pub fn adoption(word: u16, number: u32) -> [u8; 10]
     ensures { result ≡ adoption_of word number }
 {

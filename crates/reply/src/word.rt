@@ -7,6 +7,7 @@ use state::parts::Head;
 use state::status;
 
 // Whether it is the word of before: FBh and FFh writes, the reading of FAh, A0h 9.
+#[tactic(auto, unfolding(crate::specs::Word::keeps_old))]
 fn keeps_old(d: Deed) -> bool
     ensures { result ≡ keeps_old d }
 {
@@ -19,6 +20,7 @@ fn keeps_old(d: Deed) -> bool
     }
 }
 
+#[tactic(auto, unfolding(crate::specs::Word::carried_of))]
 pub(crate) fn carried(d: Deed, before: Head, after: Head) -> u16
     ensures { result ≡ carried_of d before after }
 {
