@@ -1,12 +1,18 @@
 // One head at 31 on the bench: takes raw bytes from standard input, all at time 0, and writes each reply as one line of twenty upper-case
 // hex digits.
+#![tactic(auto)]
+
+mod failing;
+
 ghost use Rattle.std.specs.Prelude.{◌≡◌};
 ghost use Rattle.bench.specs.Bench.{replied_of, spoken_of, fed_of};
 
 use head::calls;
 use head::calls::Heard;
-use libc::{STDIN_FILENO, STDOUT_FILENO};
 use state::parts::Head;
+use std::io;
+use std::io::{Print, Read};
+use std::process::ExitCode;
 
 // What a byte draws: the head after it, and the line of its reply where there is one.
 #[derive(Clone, Copy)]
@@ -16,13 +22,14 @@ struct Spoken {
     line: [u8; 21],
 }
 
-// The head on the bench, and whether there is more to do.
+// The head after some bytes, and whether all replies could be written.
 #[derive(Clone, Copy)]
 struct Bench {
     head: Head,
-    going: bool,
+    written: io::Result<()>,
 }
 
+#[tactic(auto, unfolding(crate::specs::Bench::replied_of))]
 fn replied(heard: Heard) -> bool
     ensures { result ≡ replied_of heard }
 {
@@ -49,11 +56,11 @@ fn speak(h: Head, b: u8) -> Spoken
 }
 
 // Each byte in turn, and the line of each reply at once.
-fn feed(h: Head, bytes: &[u8]) -> Bench
+fn feed(rt: &impl Print, h: Head, bytes: &[u8]) -> Bench
     ensures { result.head ≡ fed_of h bytes.now }
 {
     let mut head = h;
-    let mut going = true;
+    let mut written: io::Result<()> = Ok(());
     let mut i: usize = 0;
     while i < bytes.len() {
         let s = speak(head, bytes[i]);
@@ -61,45 +68,54 @@ fn feed(h: Head, bytes: &[u8]) -> Bench
         i += 1;
         if s.replied {
             let line = s.line;
-            going = io::write_all(STDOUT_FILENO, &line) & going;
+            written = written.and(rt.write_all(&line));
         }
     }
     Bench {
         head: head,
-        going: going,
+        written: written,
     }
 }
 
-// What one read brings.
-fn turn(h: Head) -> Bench {
-    let mut piece = io::buffer();
-    let got = libc::read(STDIN_FILENO, &mut piece);
-    if got < 0 {
-        os::fail(b"standard input");
-    }
-    if got <= 0 {
-        return Bench {
-            head: h,
-            going: false,
-        };
-    }
-    let n = io::count(got, &piece);
-    let b = feed(h, &piece[..n]);
-    if !b.going {
-        os::fail(b"standard output");
-    }
-    b
+// What came of one read.
+enum Brought {
+    Next(Head),
+    Ended,
+    Failed,
 }
 
-// A proved loop has to end, and nothing says that the input does: the turns count down from a number that no run uses up.
-fn main() {
-    let mut b = Bench {
-        head: calls::factory(0),
-        going: true,
-    };
-    let mut turns = u64::MAX;
-    while turns > 0 && b.going {
-        b = turn(b.head);
-        turns -= 1;
+// What one read brings. What goes wrong is told at once.
+fn turn(rt: &(impl Print + Eprint + Alloc), input: &mut impl Read, h: Head) -> Brought {
+    let mut piece = [0u8; 4096];
+    match input.read(&mut piece) {
+        Ok(0) => Brought::Ended,
+        Ok(n) => {
+            let b = feed(rt, h, &piece[..n]);
+            match b.written {
+                Ok(()) => Brought::Next(b.head),
+                Err(why) => {
+                    failing::tell(rt, "standard output", why);
+                    Brought::Failed
+                }
+            }
+        }
+        Err(why) => {
+            failing::tell(rt, "standard input", why);
+            Brought::Failed
+        }
     }
+}
+
+// A proved loop has to end, and nothing says that the input does: the turns count up to a number that no run uses up.
+fn main(rt: HostRuntime) -> ExitCode {
+    let mut input = rt.reader();
+    let mut head = calls::factory(0);
+    for _ in 0..u64::MAX {
+        match turn(&rt, &mut input, head) {
+            Brought::Next(after) => head = after,
+            Brought::Ended => return ExitCode::SUCCESS,
+            Brought::Failed => return ExitCode::FAILURE,
+        }
+    }
+    ExitCode::SUCCESS
 }

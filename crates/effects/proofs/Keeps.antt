@@ -1,7 +1,7 @@
 -- Every effect on a part keeps the part well-formed: what the part has to meet is told as a record of facts, the effect keeps or
 -- renews each fact, and the record goes back to the test.
 -- Assumes nothing.
-use Prim.Native.Nat.{ℕ, zero, suc, ◌+◌, ◌<◌}
+use Prim.Native.Nat.{ℕ, suc, ◌+◌, ◌<◌}
 use native.Mathlib.Nat.{add-zero, zero-add, add-suc, suc-add}
 use native.Mathlib.Omega.{arith}
 use mathlib.Core.Path.{◌≡◌, refl}

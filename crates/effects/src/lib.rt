@@ -1,4 +1,6 @@
 // What a deed does to each part of a head, and the restart. Each part has a function of its own, and nothing else changes that part.
+#![tactic(auto)]
+
 pub mod aim;
 mod control;
 pub mod errors;

@@ -6,7 +6,6 @@ use Rattle.wire.specs.declared.telegram.Telegram.{Telegram}
 use Rattle.wire.specs.Word.{byte0}
 use Rattle.rows.specs.Access.{access_of, broadcast_of}
 use Rattle.rows.specs.Ranges.{range_of}
-use Rattle.judge.specs.declared.command.Command.{Command}
 use Rattle.judge.specs.declared.verdict.Verdict.{Verdict}
 use Rattle.judge.specs.declared.verdict.Standing.{Standing}
 use Rattle.judge.specs.Commands.{command_of}

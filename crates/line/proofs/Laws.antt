@@ -8,7 +8,7 @@ use mathlib.Core.List.{List, map, [], ◌∷◌, ◌++◌, append_assoc, append-
 use native.Mathlib.Omega.{arith}
 use native.Mathlib.Numerals.{add-one}
 use native.Mathlib.Nat.{le_of_suc-le-suc, not-suc-le-zero}
-use borrow.Author.Tests.{le-leb, leb-true, ne_eqb}
+use borrow.Author.Tests.{le-leb, lt-leb, leb-true, ne_eqb}
 use lib.Dec.{leb}
 use lib.ListN.{length, get_or, set, replicate, length-append, length-map}
 use Rattle.state.specs.declared.parts.Head.{Head}
@@ -190,6 +190,11 @@ module _ (b : Bool) (l : Line) where
   pub by_few : l.count ≤ 32 → fits_by b l ≡ (all_pass_of b l.count l.heads && all_differ (serials_at l))
   unfolding fits_by
   by_few p = rw (le-leb _ _ p)
+
+  -- and with more it does not
+  pub by_over : 32 < l.count → fits_by b l ≡ false
+  unfolding fits_by
+  by_over p = rw (lt-leb _ _ p)
 
 -- so has a line that fits, whose heads are well-formed
 pub fits_small : (l : Line) → fits_of l ≡ true → l.count ≤ 32

@@ -1,10 +1,11 @@
--- A number in decimal digits: the fewest that hold it are the definition's, no more than twenty, and read back as the number. By induction over how
--- many digits there may be.
+-- A number in decimal digits: the library's are the definition's, no more than twenty, and read back as the number. By induction over how many digits
+-- there may be.
 -- Assumes nothing.
 use Rattle.std.proofs.Common.{◌≡◌, ℕ, zero, suc, ◌+◌, ◌-◌, ◌*◌, ◌/◌, ◌%◌, ◌^◌, ◌<◌, ◌≤◌, min, Bool, true, false, ltb, List, [], ◌∷◌, ◌++◌, length, sym, refl, ap, ◌∙◌, append_assoc, append-nil, arith, ltb-false, ltb-true, lt-ltb, le-leb}
 use Prim.Native.Char.{code}
-use native.Mathlib.Nat.{pow-succ', one-le-pow, pow-le-pow_right}
-use Rattle.io.specs.Digits as io
+use native.Mathlib.Nat.{pow-succ'}
+use Rattle.std.specs.Fmt.{decimal}
+use Rattle.std.proofs.lemmas.Fmt.{decimal_by_steps}
 use Rattle.text.specs.declared.numbers.Number.TheVariants as number
 use Rattle.text.specs.Numbers.{within, digits, is_decimal, value_from, value_of, number_of}
 use Rattle.office.specs.Decimal.{digits_before, decimal_of}
@@ -34,63 +35,25 @@ decimal_short n =
     20 n []
 
 -- ---- as the library spells them
-glyph_is : (n : ℕ) → io.hex_digit_ascii (n % 10) ≡ last n
-glyph_is n = let h : n % 10 < 10 = omega arith in simp (lt-ltb (n % 10) 10 h)
-
 ten_more : (k : ℕ) → 10 ^ suc k ≡ 10 * 10 ^ k
 ten_more k = pow-succ' 10 k
 
--- the fewest digits of a number below 10, and of any other
-one_place : (n k : ℕ) → n < 10 → io.IsDigitCount 10 1 n k → k ≡ 1
-one_place n zero h f = absurd (omega (arith, f.0))
-one_place n (suc zero) h f = refl
-one_place n (suc (suc k)) h f =
-    let e : suc (suc k) - 1 ≡ suc k = omega arith in
-    let low : 10 ^ suc k ≤ n = rw e at (f.2 (omega arith)) in
-    let one : 1 ≤ 10 ^ k = one-le-pow k 10 (omega arith) in
-    absurd (omega (arith, ten_more k))
+-- put before what follows, where there may be enough digits
+abbrev Spells : ℕ → List ℕ → Type 0
+Spells n ds = (most : ℕ) (after : List ℕ) → n < 10 ^ suc most → digits_before (suc most) n after ≡ ds ++ after
 
-tenth_places : (n k : ℕ) → 10 ≤ n → io.IsDigitCount 10 1 n (suc k) → io.IsDigitCount 10 1 (n / 10) k
-tenth_places n zero h f = absurd (omega (arith, f.1))
-tenth_places n (suc k) h f =
-    let e : suc (suc k) - 1 ≡ suc k = omega arith in
-    let d : suc k - 1 ≡ k = omega arith in
-    let low : 10 ^ suc k ≤ n = rw e at (f.2 (omega arith)) in
-    let high = f.1 in
-    (omega arith, omega (arith, ten_more (suc k)), λ h. rw d (omega (arith, ten_more k)))
+spells_one : (n : ℕ) → n < 10 → Spells n ((48 + n) ∷ [])
+spells_one n less most after h = let e : n % 10 ≡ n = omega arith in simp (lt-ltb n 10 less, e)
 
--- put before what follows
-spells : (most n : ℕ) (after : List ℕ) (k : ℕ) → k ≤ most → io.IsDigitCount 10 1 n k → digits_before most n after ≡ io.last_digits 10 k n ++ after
-spells =
-    by_digits (λ most n after r. (k : ℕ) → k ≤ most → io.IsDigitCount 10 1 n k → r ≡ io.last_digits 10 k n ++ after)
-    (λ n after k h f. absurd (omega (arith, f.0)))
-    (λ most n after less k h f. rw (one_place n k less f, glyph_is n))
-    (λ most n after r more ih k h f. before n after r more ih k h f)
-  where
-    before : {most : ℕ} (n : ℕ) (after r : List ℕ) → 10 ≤ n
-        → ((k : ℕ) → k ≤ most → io.IsDigitCount 10 1 (n / 10) k → r ≡ io.last_digits 10 k (n / 10) ++ (last n ∷ after))
-        → (k : ℕ) → k ≤ suc most → io.IsDigitCount 10 1 n k → r ≡ io.last_digits 10 k n ++ after
-    before n after r more ih zero h f = absurd (omega (arith, f.0))
-    before n after r more ih (suc k) h f =
-        ih k (omega arith) (tenth_places n k more f)
-        ∙ ap (λ (c : ℕ). io.last_digits 10 k (n / 10) ++ (c ∷ after)) (sym (glyph_is n))
-        ∙ sym (append_assoc (io.last_digits 10 k (n / 10)) (io.hex_digit_ascii (n % 10) ∷ []) after)
+spells_more : (n : ℕ) (ds : List ℕ) → 10 ≤ n → Spells (n / 10) ds → Spells n (ds ++ ((48 + n % 10) ∷ []))
+spells_more n ds more ih zero after h = absurd (omega arith)
+spells_more n ds more ih (suc most) after h =
+    let tenth : n / 10 < 10 ^ suc most = omega (arith, ten_more (suc most)) in
+    simp (le-ltb n 10 more) (ih most (last n ∷ after) tenth ∙ sym (append_assoc ds (last n ∷ []) after))
 
--- a number of 64 bits has no more than twenty
-few : (n k : ℕ) → n < 2 ^ 64 → io.IsDigitCount 10 1 n k → k ≤ 20
-few n k fits f = go (ltb 20 k) refl
-  where
-    go : (b : Bool) → ltb 20 k ≡ b → k ≤ 20
-    go true e =
-        let more = ltb-true 20 k e in
-        let low : 10 ^ (k - 1) ≤ n = f.2 (omega arith) in
-        let least : 10 ^ 20 ≤ 10 ^ (k - 1) = pow-le-pow_right {n = 10} (omega arith) {i = 20} {j = k - 1} (omega arith) in
-        absurd (omega arith)
-    go false e = ltb-false 20 k e
-
-pub fewest_are : (n k : ℕ) → n < 2 ^ 64 → io.IsDigitCount 10 1 n k → io.last_digits 10 k n ≡ decimal_of n
+pub decimal_is : (n : ℕ) → n < 2 ^ 64 → decimal n ≡ decimal_of n
 unfolding decimal_of
-fewest_are n k fits f = sym (spells 20 n [] k (few n k fits f) f ∙ append-nil (io.last_digits 10 k n))
+decimal_is n fits = sym (decimal_by_steps Spells spells_one spells_more n fits 19 [] (omega arith) ∙ append-nil (decimal n))
 
 -- ---- read back
 -- the last digit is one, and its value follows on that of the others

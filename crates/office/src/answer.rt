@@ -4,7 +4,8 @@ ghost use Rattle.office.specs.Decimal.{decimal_of};
 ghost use Rattle.office.specs.Answer.{blank_of, put_of, written, silence_line, reply_line, refused_line, error_line, outcome_line};
 
 use engine::Outcome;
-use libc::STDOUT_FILENO;
+use itoa::Buffer;
+use std::io;
 use text::laying;
 
 // Room for the longest answer, which names a line by twenty digits.
@@ -40,14 +41,16 @@ fn put(line: Line, piece: &[u8]) -> Line
 }
 
 // A number more, in decimal digits.
+#[tactic(auto, using(crate::proofs::Decimals::decimal_is))]
 fn put_number(line: Line, n: u64) -> Line
     ensures { result ≡ put_of line (decimal_of n) }
 {
-    let mut digits = [0u8; 20];
-    let k = io::decimal(n, &mut digits);
-    put(line, &digits[..k])
+    let mut digits = Buffer::new();
+    let text = digits.format(n);
+    put(line, text.as_bytes())
 }
 
+#[tactic(auto, using(crate::proofs::Put::one_piece))]
 fn silence() -> Line
     ensures result_value { written result ≡ silence_line }
     ensures count_in_bounds { result.count ≤ length result.text }
@@ -55,6 +58,7 @@ fn silence() -> Line
     put(blank(), b"silence\n")
 }
 
+#[tactic(auto, using(crate::proofs::Put::one_piece, hex_digits::proofs::Ten::ten_line))]
 fn reply(ten: [u8; 10]) -> Line
     ensures result_value { written result ≡ reply_line ten }
     ensures count_in_bounds { result.count ≤ length result.text }
@@ -65,6 +69,7 @@ fn reply(ten: [u8; 10]) -> Line
 }
 
 // A refusal, by its number.
+#[tactic(auto, using(crate::proofs::Put::numbered))]
 fn refused(number: u32) -> Line
     ensures result_value { written result ≡ refused_line number }
     ensures count_in_bounds { result.count ≤ length result.text }
@@ -74,6 +79,7 @@ fn refused(number: u32) -> Line
 }
 
 // A line that is no telegram, by its number.
+#[tactic(auto, using(crate::proofs::Put::numbered))]
 pub(crate) fn error(number: u64) -> Line
     ensures result_value { written result ≡ error_line number }
     ensures count_in_bounds { result.count ≤ length result.text }
@@ -96,10 +102,10 @@ pub(crate) fn outcome(what: Outcome, ten: [u8; 10]) -> Line
 }
 
 // The answer, if there is one, written at once.
-pub(crate) fn write(line: Line) -> bool
+pub(crate) fn write(rt: &impl Print, line: Line) -> io::Result<()>
     requires { line.count ≤ length line.text }
 {
     let text = line.text;
     let count = line.count;
-    io::write_all(STDOUT_FILENO, &text[..count])
+    rt.write_all(&text[..count])
 }

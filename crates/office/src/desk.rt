@@ -54,6 +54,7 @@ fn told(h: Head, bytes: [u8; 10]) -> Spoken
 }
 
 // What a line of that number says, done and answered.
+#[tactic(auto, unfolding(crate::specs::Desk::obeyed_of, crate::specs::Desk::answer_to))]
 pub(crate) fn speak(h: Head, text: &[u8], number: u64) -> Spoken
     ensures head_value { result.head ≡ obeyed_of h text.now }
     ensures line_value { written result.line ≡ answer_to h text.now number }

@@ -1,13 +1,19 @@
 // One head at 31 in the office: reads whole telegrams from standard input, one a line, and writes what each is answered with.
+#![tactic(auto)]
+
 mod answer;
 mod desk;
+mod failing;
 mod help;
 mod reading;
 
-fn main() {
-    if 1 < os::arg_count() {
-        help::explain();
-        return;
+use std::env::{Env, FillError};
+use std::process::ExitCode;
+
+fn main(rt: HostRuntime) -> ExitCode {
+    let mut none = [0u8; 0];
+    match rt.arg(1, &mut none) {
+        Err(FillError::NotPresent) => reading::run(&rt),
+        _ => help::explain(&rt),
     }
-    reading::run();
 }

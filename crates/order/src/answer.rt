@@ -1,100 +1,108 @@
 // What the clerk is told, in words.
 use crate::desk::Notice;
+use crate::failing;
 use free_number::map::Free;
-use libc::{STDERR_FILENO, STDOUT_FILENO};
 use order_form::answer::Refusal;
+use std::io;
 
-fn write(text: &[u8]) -> bool {
-    io::write_all(STDOUT_FILENO, text)
+fn write(rt: &impl Print, text: &[u8]) -> io::Result<()> {
+    rt.write_all(text)
 }
 
-fn number(n: u64) -> bool {
-    io::print_decimal(STDOUT_FILENO, n)
+fn number(rt: &impl Print, n: u64) -> io::Result<()> {
+    rt.print(n)
 }
 
-fn accepted(rows: usize) -> bool {
-    let label = write(b"accepted: ");
-    let count = number(rows as u64) & label;
+fn accepted(rt: &impl Print, rows: usize) -> io::Result<()> {
+    let label = write(rt, b"accepted: ");
+    let count = label.and(number(rt, rows as u64));
     let noun = if rows == 1 {
-        write(b" row") & count
+        count.and(write(rt, b" row"))
     } else {
-        write(b" rows") & count
+        count.and(write(rt, b" rows"))
     };
-    write(b", all serials and all numbers differ\n") & noun
+    noun.and(write(rt, b", all serials and all numbers differ\n"))
 }
 
-fn line(n: u64) -> bool {
-    let label = write(b"line ");
-    number(n) & label
+fn line(rt: &impl Print, n: u64) -> io::Result<()> {
+    let label = write(rt, b"line ");
+    label.and(number(rt, n))
 }
 
 // The number that the clerk may give instead.
-fn proposed(free: Free) -> bool {
+fn proposed(rt: &impl Print, free: Free) -> io::Result<()> {
     match free {
         Free::Number(node) => {
-            let label = write(b"the lowest free number is ");
-            let value = number(node as u64) & label;
-            write(b"\n") & value
+            let label = write(rt, b"the lowest free number is ");
+            let value = label.and(number(rt, node as u64));
+            value.and(write(rt, b"\n"))
         }
-        Free::None => write(b"no number from 1 to 127 is free\n"),
+        Free::None => write(rt, b"no number from 1 to 127 is free\n"),
     }
 }
 
-fn repeated(at: u64, what: &[u8], value: u32, earlier: u64, free: Free) -> bool {
-    let place = line(at);
-    let name = write(what) & place;
-    let said = number(value as u64) & name;
-    let stands = write(b" stands already in ") & said;
-    let other = line(earlier) & stands;
-    let end = write(b"\n") & other;
-    proposed(free) & end
+fn repeated(
+    rt: &impl Print,
+    at: u64,
+    what: &[u8],
+    value: u32,
+    earlier: u64,
+    free: Free,
+) -> io::Result<()> {
+    let place = line(rt, at);
+    let name = place.and(write(rt, what));
+    let said = name.and(number(rt, value as u64));
+    let stands = said.and(write(rt, b" stands already in "));
+    let other = stands.and(line(rt, earlier));
+    let end = other.and(write(rt, b"\n"));
+    end.and(proposed(rt, free))
 }
 
 // The document's number of a refusal.
-fn refused(why: u32) -> bool {
-    let label = write(b"refused ");
-    let text = number(why as u64) & label;
-    write(b": ") & text
+fn refused(rt: &impl Print, why: u32) -> io::Result<()> {
+    let label = write(rt, b"refused ");
+    let text = label.and(number(rt, why as u64));
+    text.and(write(rt, b": "))
 }
 
-fn outside(at: u64, node: u32) -> bool {
-    let label = refused(Refusal::OUTSIDE);
-    let place = line(at) & label;
-    let name = write(b": node number ") & place;
-    let value = number(node as u64) & name;
-    write(b" is not 1 to 127\n") & value
+fn outside(rt: &impl Print, at: u64, node: u32) -> io::Result<()> {
+    let label = refused(rt, Refusal::OUTSIDE);
+    let place = label.and(line(rt, at));
+    let name = place.and(write(rt, b": node number "));
+    let value = name.and(number(rt, node as u64));
+    value.and(write(rt, b" is not 1 to 127\n"))
 }
 
-fn too_many() -> bool {
-    let label = refused(Refusal::TOO_MANY);
-    write(b"more than 127 rows\n") & label
+fn too_many(rt: &impl Print) -> io::Result<()> {
+    let label = refused(rt, Refusal::TOO_MANY);
+    label.and(write(rt, b"more than 127 rows\n"))
 }
 
-fn malformed(at: u64) -> bool {
-    let label = write(b"error at ");
-    let place = line(at) & label;
-    write(b": not a serial and a node number\n") & place
+fn malformed(rt: &impl Print, at: u64) -> io::Result<()> {
+    let label = write(rt, b"error at ");
+    let place = label.and(line(rt, at));
+    place.and(write(rt, b": not a serial and a node number\n"))
 }
 
 // The answer on standard output; whether it could be written.
-fn told(notice: Notice) -> bool {
+fn told(rt: &impl Print, notice: Notice) -> io::Result<()> {
     match notice {
-        Notice::Accepted(rows) => accepted(rows),
+        Notice::Accepted(rows) => accepted(rt, rows),
         Notice::SameSerial {
             line,
             serial,
             earlier,
             free,
-        } => repeated(line, b": serial ", serial, earlier, free),
+        } => repeated(rt, line, b": serial ", serial, earlier, free),
         Notice::SameNumber {
             line,
             node,
             earlier,
             free,
-        } => repeated(line, b": node number ", node, earlier, free),
-        Notice::Outside { line, node } => outside(line, node),
-        Notice::TooMany => too_many(),
-        Notice::Malformed(line) => malformed(line),
+        } => repeated(rt, line, b": node number ", node, earlier, free),
+        Notice::Outside { line, node } => outside(rt, line, node),
+        Notice::TooMany => too_many(rt),
+        Notice::Malformed(line) => malformed(rt, line),
     }
 }
 
@@ -105,11 +113,15 @@ fn is_accepted(notice: Notice) -> bool {
     }
 }
 
-// The answer. Standard error gets one line where the form is not accepted, or where the answer could not be written.
-pub(crate) fn say(notice: Notice) {
-    if !told(notice) {
-        os::fail(b"standard output");
-    } else if !is_accepted(notice) {
-        io::write_all(STDERR_FILENO, b"order: the form is not accepted\n");
+// The answer; whether the form is accepted, and that could be written. Standard error gets one line where not.
+pub(crate) fn say(rt: &(impl Print + Eprint + Alloc), notice: Notice) -> bool {
+    if let Err(why) = told(rt, notice) {
+        failing::tell(rt, "standard output", why);
+        return false;
     }
+    let accepted = is_accepted(notice);
+    if !accepted {
+        let _ = rt.eprintln("order: the form is not accepted");
+    }
+    accepted
 }

@@ -52,6 +52,7 @@ pub(crate) enum Notice {
 }
 
 // A form with no line.
+#[tactic(auto, unfolding(crate::specs::Desk::desk_of))]
 pub(crate) fn bare() -> Desk
     ensures { result ≡ desk_of }
 {
@@ -125,6 +126,7 @@ fn entered(desk: Desk, entry: Entry) -> Desk
 }
 
 // One line more.
+#[tactic(auto, unfolding(crate::specs::Desk::noted_of))]
 pub(crate) fn noted(d: Desk, text: &[u8]) -> Desk
     ensures { result ≡ noted_of d text.now }
 {
@@ -208,6 +210,7 @@ fn told(rows: [Row; 127], places: [u64; 127], count: usize, free: Free, answer: 
 }
 
 // What the clerk is told: a malformed line goes before all else.
+#[tactic(auto, unfolding(crate::specs::Desk::said_of))]
 pub(crate) fn said(d: Desk) -> Notice
     ensures { result ≡ said_of d }
 {

@@ -1,13 +1,19 @@
 // The check of an order form: reads the form from standard input, and writes what the clerk is told.
+#![tactic(auto)]
+
 mod answer;
 mod desk;
+mod failing;
 mod help;
 mod reading;
 
-fn main() {
-    if 1 < os::arg_count() {
-        help::explain();
-        return;
+use std::env::{Env, FillError};
+use std::process::ExitCode;
+
+fn main(rt: HostRuntime) -> ExitCode {
+    let mut none = [0u8; 0];
+    match rt.arg(1, &mut none) {
+        Err(FillError::NotPresent) => reading::run(&rt),
+        _ => help::explain(&rt),
     }
-    reading::run();
 }

@@ -5,8 +5,9 @@ ghost use Rattle.order.specs.Desk.{noted_of};
 ghost use Rattle.order.specs.Reading.{progress_of, room};
 
 use crate::desk::Desk;
-use crate::{answer, desk};
-use libc::STDIN_FILENO;
+use crate::{answer, desk, failing};
+use std::io::Read;
+use std::process::ExitCode;
 use text::lines;
 
 // As much of a line as its meaning needs: a longer one is malformed whatever it holds.
@@ -71,28 +72,31 @@ fn closed(reading: Reading, line: &[u8]) -> Reading
 }
 
 // What one read brings.
-fn turn(reading: Reading, line: &mut [u8]) -> Reading
+fn turn(
+    rt: &(impl Eprint + Alloc),
+    input: &mut impl Read,
+    reading: Reading,
+    line: &mut [u8],
+) -> Reading
     requires { reading.kept ≤ length line.old }
     ensures { result.kept ≤ length line.old }
 {
     let mut r = reading;
-    let mut piece = io::buffer();
-    let got = libc::read(STDIN_FILENO, &mut piece);
-    if got < 0 {
-        os::fail(b"standard input");
-        r.ended = true;
-        r.failed = true;
-        return r;
+    let mut piece = [0u8; 4096];
+    match input.read(&mut piece) {
+        Ok(0) => closed(r, line),
+        Ok(n) => take_in(r, line, &piece[..n]),
+        Err(why) => {
+            failing::tell(rt, "standard input", why);
+            r.ended = true;
+            r.failed = true;
+            r
+        }
     }
-    if got == 0 {
-        return closed(r, line);
-    }
-    let n = io::count(got, &piece);
-    take_in(r, line, &piece[..n])
 }
 
-// A proved loop has to end, and nothing says that the form does: the turns count down from a number that no run uses up.
-fn read(line: &mut [u8]) -> Reading
+// A proved loop has to end, and nothing says that the form does: the turns count up to a number that no run uses up.
+fn read(rt: &(impl Eprint + Alloc), input: &mut impl Read, line: &mut [u8]) -> Reading
     requires { room ≡ length line.old }
 {
     let mut r = Reading {
@@ -101,12 +105,11 @@ fn read(line: &mut [u8]) -> Reading
         ended: false,
         failed: false,
     };
-    let mut going = true;
-    let mut turns = u64::MAX;
-    while turns > 0 && going {
-        r = turn(r, line);
-        going = !r.ended;
-        turns -= 1;
+    for _ in 0..u64::MAX {
+        r = turn(rt, input, r, line);
+        if r.ended {
+            break;
+        }
     }
     r
 }
@@ -119,10 +122,13 @@ fn blank() -> [u8; KEPT]
 }
 
 // A form that could not be read whole gets no answer.
-pub(crate) fn run() {
+pub(crate) fn run(rt: &(impl Print + Eprint + Input + Alloc)) -> ExitCode {
     let mut line = blank();
-    let r = read(&mut line);
-    if !r.failed {
-        answer::say(desk::said(r.desk));
+    let mut input = rt.reader();
+    let r = read(rt, &mut input, &mut line);
+    if !r.failed && answer::say(rt, desk::said(r.desk)) {
+        ExitCode::SUCCESS
+    } else {
+        ExitCode::FAILURE
     }
 }

@@ -1,16 +1,15 @@
--- The ways out of the call, each a case of the definitions: three refusals, and the rack fed with room for all its replies.
+-- The way out of a call that is not refused: the rack fed, with room for all its replies.
 -- Assumes nothing.
 use Prim.Native.Nat.{ℕ, ◌-◌, ◌%◌, ◌≤◌}
 use mathlib.Core.Path.{◌≡◌}
-use mathlib.Core.Bool.{true, false, and-eq-true_iff}
+use mathlib.Core.Bool.{true, and-eq-true_iff}
 use mathlib.Core.List.{List, ◌++◌}
 use native.Mathlib.Omega.{arith}
 use borrow.Author.Tests.{leb-true, eqb-true}
 use lib.ListN.{length, take, drop}
-use Rattle.head.specs.declared.refusal.Refusal.TheVariants.{Malformed, RackLength, RackSpace}
 use Rattle.line.specs.declared.calls.Line.{Line}
 use Rattle.line.specs.Calls.{fits_of}
-use Rattle.rack.specs.Rack.{is_rack, room_for, dropped_of, fed_of, laid_from, refused_with, racked, rack_of, rack_space_of}
+use Rattle.rack.specs.Rack.{is_rack, room_for, dropped_of, fed_of, laid_from, racked, rack_of, rack_space_of}
 use Rattle.rack.proofs.Filled.{side_by_side}
 use Rattle.rack.proofs.Rounds.{one_each, tens}
 
@@ -23,27 +22,12 @@ pub room_told : (n room place : ℕ) → room_for n room place ≡ true → (pla
 unfolding room_for
 room_told n room place e = let b = (and-eq-true_iff _ _).0 e in (leb-true _ _ b.0, leb-true _ _ b.1)
 
-module _ (l : Line) (bs : List ℕ) (at : ℕ) (space : List ℕ) (place : ℕ) where
-  pub malformed : fits_of l ≡ false → (refused_with l Malformed ≡ rack_of l bs at (length space) place) × (space ≡ rack_space_of l bs at space place)
+module _ (l : Line) (bs : List ℕ) (at : ℕ) (space : List ℕ) (place : ℕ) (f : fits_of l ≡ true) (t : is_rack (length bs) ≡ true) where
+  pub laid : room_for (length bs) (length space) place ≡ true
+      → (racked (fed_of (dropped_of l at) bs at) ≡ rack_of l bs at (length space) place)
+      × (take place space ++ laid_from (fed_of (dropped_of l at) bs at).laid 0 (drop place space) ≡ rack_space_of l bs at space place)
   unfolding rack_of rack_space_of
-  malformed f = (rw f, rw f)
-
-  module _ (f : fits_of l ≡ true) where
-    pub no_rack : is_rack (length bs) ≡ false → (refused_with l RackLength ≡ rack_of l bs at (length space) place) × (space ≡ rack_space_of l bs at space place)
-    unfolding rack_of rack_space_of
-    no_rack t = (rw (f, t), rw (f, t))
-
-    module _ (t : is_rack (length bs) ≡ true) where
-      pub no_room : room_for (length bs) (length space) place ≡ false
-          → (refused_with l RackSpace ≡ rack_of l bs at (length space) place) × (space ≡ rack_space_of l bs at space place)
-      unfolding rack_of rack_space_of
-      no_room r = (rw (f, t, r), rw (f, t, r))
-
-      pub laid : room_for (length bs) (length space) place ≡ true
-          → (racked (fed_of (dropped_of l at) bs at) ≡ rack_of l bs at (length space) place)
-          × (take place space ++ laid_from (fed_of (dropped_of l at) bs at).laid 0 (drop place space) ≡ rack_space_of l bs at space place)
-      unfolding rack_of rack_space_of
-      laid r =
-          let b = room_told (length bs) (length space) place r in
-          let few = one_each l at bs f (rack_told _ t).0 in
-          (rw (f, t, r), rw (f, t, r) (side_by_side _ (tens bs (dropped_of l at) at) place space (omega (arith, b.1, few))))
+  laid r =
+      let b = room_told (length bs) (length space) place r in
+      let few = one_each l at bs f (rack_told _ t).0 in
+      (rw (f, t, r), rw (f, t, r) (side_by_side _ (tens bs (dropped_of l at) at) place space (omega (arith, b.1, few))))

@@ -156,6 +156,7 @@ fn refused(line: Line, why: Refusal) -> Racked
 }
 
 // The bytes of up to 64 telegrams for a line, all at one time; the replies are laid from a place of the space on.
+#[tactic(auto, unfolding(crate::specs::Rack::rack_of, crate::specs::Rack::rack_space_of))]
 pub fn rack(line: Line, bytes: &[u8], at: u32, space: &mut [u8], place: usize) -> Racked
     ensures value { result ≡ rack_of line bytes.now at (length space.old) place }
     ensures space_after { space.new ≡ rack_space_of line bytes.now at space.old place }

@@ -1,6 +1,7 @@
--- The place of an address: what the definition's search finds is one of the rows and has the address. And two places compared.
+-- The place of an address: what the definition's search finds is one of the rows and has the address; two places compared; and what a span of
+-- addresses has, as one test over all its numbers, computed.
 -- Assumes nothing.
-use mathlib.Core.Path.{◌≡◌, refl, ap}
+use mathlib.Core.Path.{◌≡◌, refl, ap, ◌∙◌}
 use mathlib.Core.Bool.{Bool, true, false, cond}
 use mathlib.Core.List.{List, [], ◌∷◌}
 use Prim.Native.Nat.{ℕ, suc, ◌+◌, ◌-◌, ◌≤◌, ◌<◌}
@@ -11,7 +12,8 @@ use borrow.Author.Tests.{eqb-true}
 use Rattle.rows.specs.declared.table.Row.{Row}
 use Rattle.rows.specs.declared.table.Place.{Place}
 use Rattle.rows.specs.declared.table.Place.TheVariants.{At, Nowhere}
-use Rattle.rows.specs.Table.{address, place_in}
+use Rattle.rows.specs.Table.{address, place_in, place_of}
+use Rattle.rows.proofs.Span.{NoneOf, span, outside, in_rest}
 
 -- ---- what a search over any list of rows finds
 abbrev Found : Row → List Row → ℕ → ℕ → ℕ → Type 0
@@ -44,3 +46,23 @@ same_only (At i) (At k) t = ap At (eqb→eq i k t)
 same_only (At i) Nowhere t = absurd t
 same_only Nowhere (At k) t = absurd t
 same_only Nowhere Nowhere t = refl
+
+-- ---- spans of addresses
+-- the addresses that have an arm of their own, the last arm's first
+abbrev pub alone : List (List ℕ)
+alone = (208 ∷ []) ∷ (40 ∷ []) ∷ []
+
+-- the test of a span: each of its n addresses from lo on, save those, has the place that is said of it
+abbrev pub placed : (ℕ → Place) → ℕ → ℕ → Bool
+placed says lo n = span (outside alone (λ k. same (says k) (place_of k))) lo n
+
+in_place : (says : ℕ → Place) (lo n : ℕ) → T (placed says lo n) → {a : ℕ} → NoneOf alone a → lo ≤ a → a < lo + n → says a ≡ place_of a
+in_place says lo n t {a} out h g = same_only (says a) (place_of a) (in_rest (λ k. same (says k) (place_of k)) alone lo n t a out h g)
+
+-- a span whose places follow each other, s below their addresses
+pub follows : (s lo n : ℕ) → T (placed (λ k. At (k - s)) lo n) → {a i : ℕ} → NoneOf alone a → lo ≤ a → a < lo + n → i ≡ a - s → At i ≡ place_of a
+follows s lo n t out h g e = ap At e ∙ in_place (λ k. At (k - s)) lo n t out h g
+
+-- a span that has none
+pub nowhere : (lo n : ℕ) → T (placed (λ k. Nowhere) lo n) → {a : ℕ} → NoneOf alone a → lo ≤ a → a < lo + n → Nowhere ≡ place_of a
+nowhere lo n t out h g = in_place (λ k. Nowhere) lo n t out h g

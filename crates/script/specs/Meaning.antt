@@ -1,6 +1,6 @@
 -- What a line of a simulator script means: a row for each command, found by the line's first word; it says what the words after that are read as.
 -- Assumes nothing.
-use Rattle.std.specs.Prelude.{ℕ, zero, suc, ◌+◌, ◌*◌, cond, List, [], ◌∷◌, get_or}
+use Rattle.std.specs.Prelude.{ℕ, zero, suc, ◌+◌, ◌*◌, cond, ltb, List, [], ◌∷◌, length, get_or}
 use Prim.Native.String.{String}
 use Rattle.script.specs.declared.Command.{Command}
 use Rattle.script.specs.declared.Command.TheVariants as command
@@ -12,8 +12,8 @@ use Rattle.script.specs.declared.arguments.Last.{Last}
 use Rattle.script.specs.declared.arguments.Last.TheVariants as last
 use Rattle.text.specs.Text.{text}
 use Rattle.text.specs.Lines.{bare_of}
-use Rattle.script.specs.Words.{Word, same_of}
-use Rattle.script.specs.Kinds.{unless_passed, unless_long}
+use Rattle.script.specs.Words.{Word, words_of, same_of}
+use Rattle.script.specs.Kinds.{is_note, longest}
 use Rattle.text.specs.Numbers.{pair_of}
 use Rattle.script.specs.Arguments.{takes_of, arguments_of}
 
@@ -95,13 +95,15 @@ if_fit a c = cond a.fit c command.Malformed
 unfoldable pub order_of : Name → List Word → Command
 order_of n ws = let a = arguments_of (row_of n).takes ws in if_fit a ((row_of n).made a)
 
--- a line goes by its first word
+-- a line with no word, or whose first word starts with `#`, is passed over; any other goes by its first word
 unfoldable pub command_of : List Word → Command
-command_of ws = unless_passed command.Blank (λ w vs. order_of (name_of w.chars) vs) ws
+command_of [] = command.Blank
+command_of (w ∷ ws) = cond (is_note w) command.Blank (order_of (name_of w.chars) ws)
 
--- a line without newline and carriage return
+-- A line without newline and carriage return. A line too long is none of the commands, whatever stands in it, also where it would be passed over:
+-- the test comes before any word is looked at, so that nobody has to keep more of a line than this to know what it means.
 unfoldable pub spoken_of : List ℕ → Command
-spoken_of line = unless_long command.Malformed command_of line
+spoken_of line = cond (ltb longest (length line)) command.Malformed (command_of (words_of line))
 
 -- a line without its newline
 unfoldable pub meaning_of : List ℕ → Command

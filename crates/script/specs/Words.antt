@@ -1,6 +1,6 @@
 -- A line's words: they are separated by blanks or tabs, and a carriage return before the newline does not belong to the line.
 -- Assumes nothing.
-use Rattle.std.specs.Prelude.{ℕ, suc, ◌-◌, Bool, true, false, ◌&&◌, ◌||◌, cond, List, [], ◌∷◌, eqb, length, get_or, take}
+use Rattle.std.specs.Prelude.{ℕ, suc, Bool, true, false, ◌&&◌, ◌||◌, cond, List, [], ◌∷◌, eqb}
 use Prim.Native.Char.{code}
 
 -- a word: the place in the line where it starts, and its characters

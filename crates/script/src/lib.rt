@@ -1,4 +1,6 @@
 // What a line of a simulator script means, and a line of a list of telegrams.
+#![tactic(auto)]
+
 mod arguments;
 pub mod telegrams;
 mod words;

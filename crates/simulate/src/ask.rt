@@ -47,6 +47,7 @@ fn reply(space: &[u8]) -> &[u8]
 }
 
 // What a byte drew. One that is refused draws nothing.
+#[tactic(auto, unfolding(crate::specs::Ask::told_of))]
 pub(crate) fn told(question: Telegram, heard: Heard, space: &[u8]) -> Drawn
     ensures { result ≡ told_of question heard space.now }
 {
@@ -65,6 +66,7 @@ pub(crate) fn told(question: Telegram, heard: Heard, space: &[u8]) -> Drawn
 }
 
 // The four digits of an error code.
+#[tactic(auto, unfolding(crate::specs::Ask::code_digits_of, hex_digits::specs::Digits::spelled_on))]
 fn code_digits(code: u16) -> [u8; 4]
     ensures { result ≡ code_digits_of code }
 {
@@ -74,23 +76,23 @@ fn code_digits(code: u16) -> [u8; 4]
     text
 }
 
-fn put_reading(out: &mut [u8], a: Answering, reading: Reading) -> Answering {
+fn put_reading(rt: &impl Print, out: &mut [u8], a: Answering, reading: Reading) -> Answering {
     match reading {
-        Reading::Value(n) => answer::put_number(out, a, b" value ", n as u64),
+        Reading::Value(n) => answer::put_number(rt, out, a, b" value ", n as u64),
         Reading::Error(code) => {
-            let label = answer::put(out, a, b" error ");
+            let label = answer::put(rt, out, a, b" error ");
             let digits = code_digits(code);
-            answer::put(out, label, &digits)
+            answer::put(rt, out, label, &digits)
         }
-        Reading::Foreign => answer::put(out, a, b" foreign"),
+        Reading::Foreign => answer::put(rt, out, a, b" foreign"),
     }
 }
 
 // The words for what a byte drew.
-pub(crate) fn put_drawn(out: &mut [u8], a: Answering, drawn: Drawn) -> Answering {
+pub(crate) fn put_drawn(rt: &impl Print, out: &mut [u8], a: Answering, drawn: Drawn) -> Answering {
     match drawn {
         Drawn::Nothing => a,
-        Drawn::Reply(reading) => put_reading(out, a, reading),
-        Drawn::Collision(n) => answer::put_number(out, a, b" collision ", n as u64),
+        Drawn::Reply(reading) => put_reading(rt, out, a, reading),
+        Drawn::Collision(n) => answer::put_number(rt, out, a, b" collision ", n as u64),
     }
 }

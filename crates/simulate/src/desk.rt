@@ -12,6 +12,7 @@ use head::calls::{Answer, Heard, Hit};
 use line::calls;
 use line::calls::{Called, Line};
 use script::Command;
+use std::io;
 use wire::telegram::Telegram;
 
 // The most space that a script can ask for.
@@ -28,10 +29,11 @@ pub(crate) struct Desk {
 #[derive(Clone, Copy)]
 pub(crate) struct Obeyed {
     pub desk: Desk,
-    pub written: bool,
+    pub written: io::Result<()>,
 }
 
 // An empty line, and space for one reply.
+#[tactic(auto, unfolding(crate::specs::Desk::desk_of))]
 pub(crate) fn bare() -> Desk
     ensures { result ≡ desk_of }
 {
@@ -41,14 +43,15 @@ pub(crate) fn bare() -> Desk
     }
 }
 
-fn write_answer(a: Answer) -> bool {
+fn write_answer(rt: &impl Print, a: Answer) -> io::Result<()> {
     match a {
-        Answer::Done => answer::write(b"ok\n"),
-        Answer::Refused(why) => answer::write_refused(why.number()),
+        Answer::Done => answer::write(rt, b"ok\n"),
+        Answer::Refused(why) => answer::write_refused(rt, why.number()),
     }
 }
 
 // The answer that shows an exclusive-or.
+#[tactic(auto, unfolding(crate::specs::Desk::hit_line_of, hex_digits::specs::Digits::spelled_on))]
 fn hit_line(x: u8) -> [u8; 7]
     ensures { result ≡ hit_line_of x }
 {
@@ -58,31 +61,39 @@ fn hit_line(x: u8) -> [u8; 7]
     text
 }
 
-fn write_hit(hit: Hit) -> bool {
+fn write_hit(rt: &impl Print, hit: Hit) -> io::Result<()> {
     match hit {
         Hit::Bits(x) => {
             let text = hit_line(x);
-            answer::write(&text)
+            answer::write(rt, &text)
         }
-        Hit::Refused(why) => answer::write_refused(why.number()),
+        Hit::Refused(why) => answer::write_refused(rt, why.number()),
     }
 }
 
-fn write_error(number: u64) -> bool {
-    let label = answer::write(b"error at line ");
-    let text = answer::write_number(number) & label;
-    answer::write(b"\n") & text
+fn write_error(rt: &impl Print, number: u64) -> io::Result<()> {
+    let label = answer::write(rt, b"error at line ");
+    let text = label.and(answer::write_number(rt, number));
+    text.and(answer::write(rt, b"\n"))
 }
 
 // Bytes, fed one after another and answered in one line of output.
-fn feed(d: Desk, purpose: Purpose, bytes: &[u8], time: u32) -> Obeyed
+fn feed(rt: &impl Print, d: Desk, purpose: Purpose, bytes: &[u8], time: u32) -> Obeyed
     ensures { result.desk ≡ feed_of d (nth_of bytes.now) time (length bytes.now) }
 {
     let mut space = [0u8; MOST_SPACE];
     let size = room::within(d.space, MOST_SPACE);
     let mut out = [0u8; 2048];
-    let s = feeding::feed_all(d.line, purpose, bytes, time, &mut space[..size], &mut out);
-    let a = answer::put(&mut out, s.answering, b"\n");
+    let s = feeding::feed_all(
+        rt,
+        d.line,
+        purpose,
+        bytes,
+        time,
+        &mut space[..size],
+        &mut out,
+    );
+    let a = answer::put(rt, &mut out, s.answering, b"\n");
     let line = s.line;
     let desk = Desk {
         line: line,
@@ -90,37 +101,37 @@ fn feed(d: Desk, purpose: Purpose, bytes: &[u8], time: u32) -> Obeyed
     };
     Obeyed {
         desk: desk,
-        written: answer::flush(&out, a),
+        written: answer::flush(rt, &out, a),
     }
 }
 
 // A send of so many bytes, whose digits start at the place `from`. All are read before the first is fed, so that the line hears them by stretches;
 // a line of a script has no room for more than 2,048.
-fn sent(d: Desk, text: &[u8], time: u32, from: usize, count: usize) -> Obeyed
+fn sent(rt: &impl Print, d: Desk, text: &[u8], time: u32, from: usize, count: usize) -> Obeyed
     ensures { result.desk ≡ feed_of d (byte_at_of text.now from) time (min count most_carried) }
 {
     let mut bytes = [0u8; carried::MOST];
     let n = carried::gather(&mut bytes, text, from, count);
-    feed(d, Purpose::Send, &bytes[..n], time)
+    feed(rt, d, Purpose::Send, &bytes[..n], time)
 }
 
 // A question: the ten bytes of its telegram. Where the master builds none, none is fed.
-fn asked(d: Desk, time: u32, question: Telegram) -> Obeyed
+fn asked(rt: &impl Print, d: Desk, time: u32, question: Telegram) -> Obeyed
     ensures { result.desk ≡ asked_of d time question }
 {
     let built = master::build(question);
     let ten = built.ten;
     let answer = built.answer;
     match answer {
-        master::Answer::Done => feed(d, Purpose::Ask(question), &ten, time),
+        master::Answer::Done => feed(rt, d, Purpose::Ask(question), &ten, time),
         master::Answer::Refused(why) => Obeyed {
             desk: d,
-            written: answer::write_refused(why.number()),
+            written: answer::write_refused(rt, why.number()),
         },
     }
 }
 
-fn done(d: Desk, c: Called) -> Obeyed
+fn done(rt: &impl Print, d: Desk, c: Called) -> Obeyed
     ensures { result.desk ≡ called_of d c }
 {
     let line = c.line;
@@ -131,28 +142,28 @@ fn done(d: Desk, c: Called) -> Obeyed
     let answer = c.answer;
     Obeyed {
         desk: desk,
-        written: write_answer(answer),
+        written: write_answer(rt, answer),
     }
 }
 
 // What a key state drew: a head sends a reply only where it adopts the number that it was offered.
-fn write_pressed(heard: Heard, space: &[u8; MOST_SPACE]) -> bool {
+fn write_pressed(rt: &impl Print, heard: Heard, space: &[u8; MOST_SPACE]) -> io::Result<()> {
     match heard {
         Heard::Replies(n) => {
             if n == 0 {
-                return write_answer(Answer::Done);
+                return write_answer(rt, Answer::Done);
             }
-            let label = answer::write(b"ok");
+            let label = answer::write(rt, b"ok");
             let text = feeding::word(space);
-            let reply = answer::write(&text) & label;
-            answer::write(b"\n") & reply
+            let reply = label.and(answer::write(rt, &text));
+            reply.and(answer::write(rt, b"\n"))
         }
-        Heard::Refused(why) => answer::write_refused(why.number()),
+        Heard::Refused(why) => answer::write_refused(rt, why.number()),
     }
 }
 
 // A key state lends as much as a byte does. The reply, if there is one, is at the start of what was lent.
-fn press(d: Desk, head: usize, state: u32) -> Obeyed
+fn press(rt: &impl Print, d: Desk, head: usize, state: u32) -> Obeyed
     ensures { result.desk ≡ pressed_of d head state }
 {
     let mut space = [0u8; MOST_SPACE];
@@ -166,23 +177,23 @@ fn press(d: Desk, head: usize, state: u32) -> Obeyed
     let heard = f.heard;
     Obeyed {
         desk: desk,
-        written: write_pressed(heard, &space),
+        written: write_pressed(rt, heard, &space),
     }
 }
 
-fn write_saved(s: Saved) -> bool {
+fn write_saved(rt: &impl Print, s: Saved) -> io::Result<()> {
     let answer = s.answer;
     match answer {
         Answer::Done => {
             let text = s.text;
-            answer::write(&text)
+            answer::write(rt, &text)
         }
-        Answer::Refused(why) => answer::write_refused(why.number()),
+        Answer::Refused(why) => answer::write_refused(rt, why.number()),
     }
 }
 
 // A save lends as much as a byte does, and leaves the desk as it is.
-fn saved(d: Desk, head: usize) -> Obeyed
+fn saved(rt: &impl Print, d: Desk, head: usize) -> Obeyed
     ensures { result.desk ≡ d }
 {
     let mut space = [0u8; MOST_SPACE];
@@ -190,12 +201,13 @@ fn saved(d: Desk, head: usize) -> Obeyed
     let s = sheets::save(d.line, head, &mut space[..lent]);
     Obeyed {
         desk: d,
-        written: write_saved(s),
+        written: write_saved(rt, s),
     }
 }
 
 // A rack of these bytes lends as much as a byte does.
-fn rack(d: Desk, time: u32, place: usize, bytes: &[u8]) -> Obeyed
+#[tactic(auto, unfolding(crate::specs::Desk::racked_of))]
+fn rack(rt: &impl Print, d: Desk, time: u32, place: usize, bytes: &[u8]) -> Obeyed
     ensures { result.desk ≡ racked_of d time place bytes.now }
 {
     let mut space = [0u8; MOST_SPACE];
@@ -210,53 +222,66 @@ fn rack(d: Desk, time: u32, place: usize, bytes: &[u8]) -> Obeyed
     let answer = r.answer;
     Obeyed {
         desk: desk,
-        written: racks::write(answer, &words),
+        written: racks::write(rt, answer, &words),
     }
 }
 
 // A rack of so many bytes, whose digits start at the place `from`. A line of a script has no room for more than 2,048, which are no rack.
-fn racked(d: Desk, text: &[u8], time: u32, place: usize, from: usize, count: usize) -> Obeyed
+fn racked(
+    rt: &impl Print,
+    d: Desk,
+    text: &[u8],
+    time: u32,
+    place: usize,
+    from: usize,
+    count: usize,
+) -> Obeyed
     ensures { result.desk ≡ racked_of d time place (brought_of text.now from count) }
 {
     let mut bytes = [0u8; carried::MOST];
     let n = carried::gather(&mut bytes, text, from, count);
-    rack(d, time, place, &bytes[..n])
+    rack(rt, d, time, place, &bytes[..n])
 }
 
-fn spaced(d: Desk, size: usize) -> Obeyed
+fn spaced(rt: &impl Print, d: Desk, size: usize) -> Obeyed
     ensures { result.desk ≡ spaced_of d size }
 {
     let mut desk = d;
     desk.space = size;
     Obeyed {
         desk: desk,
-        written: write_answer(Answer::Done),
+        written: write_answer(rt, Answer::Done),
     }
 }
 
 // What a line of the script says, done and answered.
-pub(crate) fn obey(d: Desk, text: &[u8], number: u64) -> Obeyed
+#[tactic(auto, unfolding(crate::specs::Desk::obeyed_of))]
+pub(crate) fn obey(rt: &impl Print, d: Desk, text: &[u8], number: u64) -> Obeyed
     ensures { result.desk ≡ obeyed_of d text.now }
 {
     match script::meaning(text) {
         Command::Blank => Obeyed {
             desk: d,
-            written: true,
+            written: Ok(()),
         },
         Command::Malformed => Obeyed {
             desk: d,
-            written: write_error(number),
+            written: write_error(rt, number),
         },
-        Command::Grow { node, serial } => done(d, calls::grow(d.line, node, serial)),
-        Command::Send { time, from, count } => sent(d, text, time, from, count),
-        Command::Tick(time) => done(d, calls::tick(d.line, time)),
-        Command::Measure { head, value } => done(d, calls::measure(d.line, head as usize, value)),
-        Command::Keys { head, state } => press(d, head as usize, state),
-        Command::Power(head) => done(d, calls::power(d.line, head as usize)),
-        Command::Space(size) => spaced(d, size),
+        Command::Grow { node, serial } => done(rt, d, calls::grow(d.line, node, serial)),
+        Command::Send { time, from, count } => sent(rt, d, text, time, from, count),
+        Command::Tick(time) => done(rt, d, calls::tick(d.line, time)),
+        Command::Measure { head, value } => done(
+            rt,
+            d,
+            calls::measure(d.line, head as usize, value),
+        ),
+        Command::Keys { head, state } => press(rt, d, head as usize, state),
+        Command::Power(head) => done(rt, d, calls::power(d.line, head as usize)),
+        Command::Space(size) => spaced(rt, d, size),
         Command::Xor(head) => Obeyed {
             desk: d,
-            written: write_hit(calls::last_hit(d.line, head as usize)),
+            written: write_hit(rt, calls::last_hit(d.line, head as usize)),
         },
         Command::Ask {
             time,
@@ -265,9 +290,15 @@ pub(crate) fn obey(d: Desk, text: &[u8], number: u64) -> Obeyed
             parameter,
             word,
             data,
-        } => asked(d, time, ask::question(command, node, parameter, word, data)),
-        Command::Save(head) => saved(d, head as usize),
+        } => asked(
+            rt,
+            d,
+            time,
+            ask::question(command, node, parameter, word, data),
+        ),
+        Command::Save(head) => saved(rt, d, head as usize),
         Command::Load { head, from, count } => done(
+            rt,
             d,
             sheets::load(d.line, head as usize, text, from, count),
         ),
@@ -276,7 +307,7 @@ pub(crate) fn obey(d: Desk, text: &[u8], number: u64) -> Obeyed
             place,
             from,
             count,
-        } => racked(d, text, time, place as usize, from, count),
-        Command::Bring(head) => done(d, calls::bring(d.line, head as usize)),
+        } => racked(rt, d, text, time, place as usize, from, count),
+        Command::Bring(head) => done(rt, d, calls::bring(d.line, head as usize)),
     }
 }

@@ -24,6 +24,7 @@ pub(crate) struct Sent {
 }
 
 // The reply at the start of the space, after a blank.
+#[tactic(auto, unfolding(crate::specs::Feeding::word_of))]
 pub(crate) fn word(space: &[u8]) -> [u8; 21]
     ensures { result ≡ word_of space.now }
 {
@@ -36,7 +37,13 @@ pub(crate) fn word(space: &[u8]) -> [u8; 21]
 }
 
 // What the last byte of a stretch of a send drew, as it came.
-fn put_replies(out: &mut [u8], a: Answering, heard: Heard, space: &[u8]) -> Answering {
+fn put_replies(
+    rt: &impl Print,
+    out: &mut [u8],
+    a: Answering,
+    heard: Heard,
+    space: &[u8],
+) -> Answering {
     match heard {
         Heard::Replies(n) => {
             if n == 0 {
@@ -44,9 +51,9 @@ fn put_replies(out: &mut [u8], a: Answering, heard: Heard, space: &[u8]) -> Answ
             }
             if n == 1 {
                 let text = word(space);
-                return answer::put(out, a, &text);
+                return answer::put(rt, out, a, &text);
             }
-            answer::put_number(out, a, b" collision ", n as u64)
+            answer::put_number(rt, out, a, b" collision ", n as u64)
         }
         Heard::Refused(_) => a,
     }
@@ -54,6 +61,7 @@ fn put_replies(out: &mut [u8], a: Answering, heard: Heard, space: &[u8]) -> Answ
 
 // The first stretch says whether the bytes are refused or fed; a refusal is that of all of them.
 fn put_start(
+    rt: &impl Print,
     out: &mut [u8],
     a: Answering,
     is_first: bool,
@@ -63,12 +71,12 @@ fn put_start(
     if is_first {
         return match heard {
             Heard::Replies(_) => match purpose {
-                Purpose::Send => answer::put(out, a, b"sent"),
-                Purpose::Ask(_) => answer::put(out, a, b"asked"),
+                Purpose::Send => answer::put(rt, out, a, b"sent"),
+                Purpose::Ask(_) => answer::put(rt, out, a, b"asked"),
             },
             Heard::Refused(why) => Answering {
                 kept: 0,
-                written: answer::write_refusal(why.number()) & a.written,
+                written: a.written.and(answer::write_refusal(rt, why.number())),
             },
         };
     }
@@ -77,6 +85,7 @@ fn put_start(
 
 // What a stretch is answered with.
 fn put_heard(
+    rt: &impl Print,
     out: &mut [u8],
     a: Answering,
     is_first: bool,
@@ -84,10 +93,10 @@ fn put_heard(
     heard: Heard,
     space: &[u8],
 ) -> Answering {
-    let start = put_start(out, a, is_first, purpose, heard);
+    let start = put_start(rt, out, a, is_first, purpose, heard);
     match purpose {
-        Purpose::Send => put_replies(out, start, heard, space),
-        Purpose::Ask(question) => ask::put_drawn(out, start, ask::told(question, heard, space)),
+        Purpose::Send => put_replies(rt, out, start, heard, space),
+        Purpose::Ask(question) => ask::put_drawn(rt, out, start, ask::told(question, heard, space)),
     }
 }
 
@@ -104,6 +113,7 @@ fn after(heard: Heard, next: usize, end: usize) -> usize
 // All these bytes, at one time and with the same space; the answer to them is put into `out`. They are fed by stretches, since a call copies the
 // whole line, and only a byte that draws a reply has something to be answered before the next.
 pub(crate) fn feed_all(
+    rt: &impl Print,
     line: Line,
     purpose: Purpose,
     bytes: &[u8],
@@ -116,14 +126,14 @@ pub(crate) fn feed_all(
     let mut l = line;
     let mut a = Answering {
         kept: 0,
-        written: true,
+        written: Ok(()),
     };
     let mut i: usize = 0;
     while i < bytes.len() {
         let s = calls::until_reply(l, bytes, i, time, space);
         l = s.line;
         let heard = s.heard;
-        a = put_heard(out, a, i == 0, purpose, heard, space);
+        a = put_heard(rt, out, a, i == 0, purpose, heard, space);
         i = after(heard, s.next, bytes.len());
     }
     Sent {

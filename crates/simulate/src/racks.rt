@@ -6,6 +6,7 @@ ghost use Rattle.simulate.specs.Racks.{counted_of, shown_on, shown_of};
 use crate::{answer, feeding, room};
 use line::calls::Line;
 use rack::{Answer, Racked};
+use std::io;
 use text::laying;
 
 // Room for the words of as many replies as a rack can have: 64, of a blank and twenty digits each.
@@ -64,17 +65,17 @@ pub(crate) fn call(
 }
 
 // What a rack came to, with the words of the replies that it laid.
-pub(crate) fn write(answer: Answer, words: &[u8]) -> bool {
+pub(crate) fn write(rt: &impl Print, answer: Answer, words: &[u8]) -> io::Result<()> {
     match answer {
         Answer::Laid(tally) => {
             let n = 21 * room::within(tally.replies, words.len() / 21);
-            let label = answer::write(b"racked ");
-            let first = answer::write_number(tally.replies as u64) & label;
-            let blank = answer::write(b" ") & first;
-            let second = answer::write_number(tally.collisions as u64) & blank;
-            let text = answer::write(&words[..n]) & second;
-            answer::write(b"\n") & text
+            let label = answer::write(rt, b"racked ");
+            let first = label.and(answer::write_number(rt, tally.replies as u64));
+            let blank = first.and(answer::write(rt, b" "));
+            let second = blank.and(answer::write_number(rt, tally.collisions as u64));
+            let text = second.and(answer::write(rt, &words[..n]));
+            text.and(answer::write(rt, b"\n"))
         }
-        Answer::Refused(why) => answer::write_refused(why.number()),
+        Answer::Refused(why) => answer::write_refused(rt, why.number()),
     }
 }

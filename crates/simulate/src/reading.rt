@@ -3,46 +3,50 @@ ghost use Rattle.std.specs.Prelude.{◌≡◌, ◌≤◌, length};
 ghost use Rattle.text.specs.Reading.{ended_of, closed_of, read_of};
 ghost use Rattle.simulate.specs.Reading.{noted_of, state_of, progress_of};
 
-use crate::desk;
 use crate::desk::Desk;
-use libc::STDIN_FILENO;
+use crate::{desk, failing};
+use std::io;
+use std::io::Read;
+use std::process::ExitCode;
 use text::lines;
 
 // As much of a line as its meaning needs: a longer one is malformed whatever it holds.
 const KEPT: usize = 4098;
 
 // How far the script is read: the desk, how many lines there were, how much of the next is kept, whether all answers could be written,
-// and whether the script has ended.
+// whether the script has ended, and whether it could not be read.
 #[derive(Clone, Copy)]
 struct Reading {
     desk: Desk,
     lines: u64,
     kept: usize,
-    written: bool,
+    written: io::Result<()>,
     ended: bool,
+    failed: bool,
 }
 
 // The end of a line.
-fn end(reading: Reading, line: &[u8]) -> Reading
+fn end(rt: &impl Print, reading: Reading, line: &[u8]) -> Reading
     requires { reading.kept ≤ length line.now }
     ensures kept_value { result.kept ≡ 0 }
     ensures line_value { progress_of result line.now ≡ ended_of noted_of (progress_of reading line.now) }
 {
     let number = std::num::wrapping_add_u64(reading.lines, 1);
     let kept = reading.kept;
-    let o = desk::obey(reading.desk, &line[..kept], number);
+    let o = desk::obey(rt, reading.desk, &line[..kept], number);
     let desk = o.desk;
     Reading {
         desk: desk,
         lines: number,
         kept: 0,
-        written: o.written & reading.written,
+        written: reading.written.and(o.written),
         ended: reading.ended,
+        failed: reading.failed,
     }
 }
 
 // The bytes of a piece: each newline ends a line.
-fn take_in(reading: Reading, line: &mut [u8], piece: &[u8]) -> Reading
+fn take_in(rt: &impl Print, reading: Reading, line: &mut [u8], piece: &[u8]) -> Reading
     requires { reading.kept ≤ length line.old }
     ensures kept_in_bounds { result.kept ≤ length line.old }
     ensures line_after { progress_of result line.new ≡ read_of noted_of (length line.old) (progress_of reading line.old) piece.now }
@@ -54,69 +58,79 @@ fn take_in(reading: Reading, line: &mut [u8], piece: &[u8]) -> Reading
         r.kept = t.kept;
         i = t.at;
         if t.ended {
-            r = end(r, line);
+            r = end(rt, r, line);
         }
     }
     r
 }
 
 // The end of the script: what is kept, if anything, is a last line without a newline.
-fn closed(reading: Reading, line: &[u8]) -> Reading
+fn closed(rt: &impl Print, reading: Reading, line: &[u8]) -> Reading
     requires { reading.kept ≤ length line.now }
     ensures kept_value { result.kept ≡ 0 }
     ensures result_value { state_of result ≡ closed_of noted_of (progress_of reading line.now) }
 {
     let mut r = reading;
     if 0 < r.kept {
-        r = end(r, line);
+        r = end(rt, r, line);
     }
     r.ended = true;
     r
 }
 
 // What one read brings.
-fn turn(reading: Reading, line: &mut [u8]) -> Reading
+fn turn(
+    rt: &(impl Print + Eprint + Alloc),
+    input: &mut impl Read,
+    reading: Reading,
+    line: &mut [u8],
+) -> Reading
     requires { reading.kept ≤ length line.old }
     ensures { result.kept ≤ length line.old }
 {
     let mut r = reading;
-    let mut piece = io::buffer();
-    let got = libc::read(STDIN_FILENO, &mut piece);
-    if got < 0 {
-        os::fail(b"standard input");
-        r.ended = true;
-        return r;
-    }
-    if got == 0 {
-        return closed(r, line);
-    }
-    let n = io::count(got, &piece);
-    take_in(r, line, &piece[..n])
-}
-
-fn close(written: bool) {
-    if !written {
-        os::fail(b"standard output");
+    let mut piece = [0u8; 4096];
+    match input.read(&mut piece) {
+        Ok(0) => closed(rt, r, line),
+        Ok(n) => take_in(rt, r, line, &piece[..n]),
+        Err(why) => {
+            failing::tell(rt, "standard input", why);
+            r.ended = true;
+            r.failed = true;
+            r
+        }
     }
 }
 
-// A proved loop has to end, and nothing says that the script does: the turns count down from a number that no run uses up.
-fn read(line: &mut [u8]) {
+// Whether all answers could be written. What goes wrong is told.
+fn close(rt: &(impl Eprint + Alloc), written: io::Result<()>) -> bool {
+    match written {
+        Ok(()) => true,
+        Err(why) => {
+            failing::tell(rt, "standard output", why);
+            false
+        }
+    }
+}
+
+// Whether the script could be read and all answers be written. A proved loop has to end, and nothing says that the script does: the turns count up to a
+// number that no run uses up.
+fn read(rt: &(impl Print + Eprint + Alloc), input: &mut impl Read, line: &mut [u8]) -> bool {
     let mut r = Reading {
         desk: desk::bare(),
         lines: 0,
         kept: 0,
-        written: true,
+        written: Ok(()),
         ended: false,
+        failed: false,
     };
-    let mut going = true;
-    let mut turns = u64::MAX;
-    while turns > 0 && going {
-        r = turn(r, line);
-        going = r.written & !r.ended;
-        turns -= 1;
+    for _ in 0..u64::MAX {
+        r = turn(rt, input, r, line);
+        if r.ended | r.written.is_err() {
+            break;
+        }
     }
-    close(r.written);
+    close(rt, r.written) & !r.failed
 }
 
 // Room for what is kept of a line. Of its contents nothing is said, only how much it is.
@@ -126,7 +140,12 @@ fn blank() -> [u8; KEPT]
     [0; KEPT]
 }
 
-pub(crate) fn run() {
+pub(crate) fn run(rt: &(impl Print + Eprint + Input + Alloc)) -> ExitCode {
     let mut line = blank();
-    read(&mut line);
+    let mut input = rt.reader();
+    if read(rt, &mut input, &mut line) {
+        ExitCode::SUCCESS
+    } else {
+        ExitCode::FAILURE
+    }
 }

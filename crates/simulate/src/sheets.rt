@@ -26,6 +26,7 @@ pub(crate) fn load(l: Line, head: usize, text: &[u8], from: usize, count: usize)
 }
 
 // The line that shows the sheet at the start of the space; blanks for digits where the space is too short for a sheet.
+#[tactic(auto, unfolding(crate::specs::Sheets::saved_line_of))]
 fn saved_line(space: &[u8]) -> [u8; 555]
     ensures { result ≡ saved_line_of space.now }
 {

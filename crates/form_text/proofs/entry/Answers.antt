@@ -8,18 +8,15 @@ use Rattle.form_text.proofs.entry.Goals as goal
 
 pub returns-then-n-gt-LONGEST : goal.returns-then-n-gt-LONGEST
 unfolding entry_of
-returns-then-n-gt-LONGEST c = let b = c in simp (← b.unmarked-unmarked.ensures, ← b.bare_length-n.ensures, lt-ltb _ _ c.if-n-gt-LONGEST.true)
+returns-then-n-gt-LONGEST c = simp (← c.unmarked-unmarked.ensures, ← c.bare_length-n.ensures, lt-ltb _ _ c.if-n-gt-LONGEST.true)
 
 pub slice_bounds-trimmed-end : goal.slice_bounds-trimmed-end
 unfolding entry_of
-slice_bounds-trimmed-end c = let b = c in
-    let line = b.unmarked-unmarked.result.now in
-    sym (length-take-le _ line (rw b.bare_length-n.ensures (bare_within line)))
+slice_bounds-trimmed-end c = let line = c.unmarked-unmarked.result.now in
+    sym (length-take-le _ line (rw c.bare_length-n.ensures (bare_within line)))
 
 pub returns : goal.returns
 unfolding entry_of
-returns c = let t = c in
-    let b = t in
-    let line = b.unmarked-unmarked.result.now in
-    simp (← b.unmarked-unmarked.ensures, ← b.bare_length-n.ensures, le-ltb _ _ t.if-n-gt-LONGEST.false)
-    (c.read.ensures ∙ rw (t.trimmed.ensures, b.bare_length-n.ensures, bare_start line))
+returns c = let line = c.unmarked-unmarked.result.now in
+    simp (← c.unmarked-unmarked.ensures, ← c.bare_length-n.ensures, le-ltb _ _ c.if-n-gt-LONGEST.false)
+    (c.read.ensures ∙ rw (c.trimmed.ensures, c.bare_length-n.ensures, bare_start line))

@@ -13,10 +13,8 @@ returns-then-line-eq35 c = simp (ne_eqb _ _ c.if-line-eq0.false, eq-eqb _ _ c.if
 
 pub returns-then-first-any_digit : goal.returns-then-first-any_digit
 unfolding read_of
-returns-then-first-any_digit c = let d = c in
-    simp (ne_eqb _ _ d.if-line-eq0.false, ne_eqb _ _ d.if-line-eq35.false, ← d.any_digit.ensures, c.if-first-any_digit.true)
+returns-then-first-any_digit c = simp (ne_eqb _ _ c.if-line-eq0.false, ne_eqb _ _ c.if-line-eq35.false, ← c.any_digit.ensures, c.if-first-any_digit.true)
 
 pub returns : goal.returns
 unfolding read_of
-returns c = let d = c in
-    simp (ne_eqb _ _ d.if-line-eq0.false, ne_eqb _ _ d.if-line-eq35.false, ← d.any_digit.ensures, c.if-first-any_digit.false) c.row.ensures
+returns c = simp (ne_eqb _ _ c.if-line-eq0.false, ne_eqb _ _ c.if-line-eq35.false, ← c.any_digit.ensures, c.if-first-any_digit.false) c.row.ensures

@@ -1,6 +1,5 @@
 -- `script::called` meets its contract: the test is the definition's.
 use mathlib.Core.Path.{sym, ◌∙◌}
-use borrow.Author.Rules.{rules}
 use Rattle.script.proofs.called.Goals as goal
 
 pub returns-then-is : goal.returns-then-is

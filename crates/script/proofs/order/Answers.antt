@@ -18,9 +18,7 @@ unfolding order_of
 ordered n ws {a = a} p q e = ap (λ (x : Bool). cond x ((row_of n).made a) Malformed) (sym e) ∙ rw (q, p)
 
 pub returns-then-a : goal.returns-then-a
-returns-then-a c = let r = c in
-    c.made.ensures ∙ ordered _ _ r.takes.ensures r.read-a.ensures c.if-a.true
+returns-then-a c = c.made.ensures ∙ ordered _ _ c.takes.ensures c.read-a.ensures c.if-a.true
 
 pub returns-else-a : goal.returns-else-a
-returns-else-a c = let r = c in
-    ordered _ _ r.takes.ensures r.read-a.ensures c.if-a.false
+returns-else-a c = ordered _ _ c.takes.ensures c.read-a.ensures c.if-a.false

@@ -1,42 +1,48 @@
 -- `script::spoken` meets its contract: each kind of line is a case of the definition, and what is spoken goes by its first word.
 use Prim.Native.Nat.{ℕ}
-use mathlib.Core.Path.{◌≡◌, ◌∙◌}
-use mathlib.Core.List.{List}
-use borrow.Author.Rules.{rules}
+use mathlib.Core.Path.{◌≡◌, refl, ap, ◌∙◌}
+use mathlib.Core.Bool.{cond}
+use mathlib.Core.List.{List, [], ◌∷◌}
+use lib.Dec.{ltb}
+use lib.ListN.{length}
 use Rattle.script.specs.declared.Command.{Command}
 use Rattle.script.specs.declared.Command.TheVariants.{Blank, Malformed}
 use Rattle.script.specs.declared.Name.{Name}
 use Rattle.script.specs.declared.words.Kind.{Kind}
 use Rattle.script.specs.declared.words.Kind.TheVariants.{Spoken}
-use Rattle.script.specs.Words.{Word}
+use Rattle.script.specs.Words.{Word, words_of}
 use Rattle.script.specs.Places.{words_at, after_of, first_of}
-use Rattle.script.specs.Kinds.{kind_of}
+use Rattle.script.specs.Kinds.{kind_of, longest, unless_passed}
 use Rattle.script.specs.Meaning.{name_of, order_of, command_of, spoken_of}
-use Rattle.script.proofs.ByKind.{by_kind}
+use Rattle.script.proofs.ByKind.{by_kind, comes_to}
 use Rattle.script.proofs.spoken.Goals as goal
 
 -- what is spoken, as the definition has it
 abbrev ordering : Word → List Word → Command
 ordering w ws = order_of (name_of w.chars) ws
 
+passed_over : (ws : List Word) → unless_passed Blank ordering ws ≡ command_of ws
+unfolding command_of
+passed_over [] = refl
+passed_over (w ∷ ws) = refl
+
+spoken_is : (l : List ℕ) → comes_to Malformed Blank ordering l ≡ spoken_of l
+unfolding spoken_of
+spoken_is l = ap (λ (x : Command). cond (ltb longest (length l)) Malformed x) (passed_over (words_of l))
+
 -- the order that the first word and the words past it make
 ordered : (l : List ℕ) {k : Kind} {at next : ℕ} {n : Name} {f : List ℕ} → k ≡ kind_of l → k ≡ Spoken at → n ≡ name_of f → f ≡ first_of (words_at l 0)
     → next ≡ after_of l 0 → order_of n (words_at l next) ≡ spoken_of l
-unfolding spoken_of command_of
 ordered l {k} e s name first after =
     let t = by_kind Malformed Blank ordering l k e s in
-    rw (name, first, after, t.1) t.0
+    rw (name, first, after, t.1) (t.0 ∙ spoken_is l)
 
 pub returns-in-Long : goal.returns-in-Long
-unfolding spoken_of command_of
-returns-in-Long c = by_kind Malformed Blank ordering _ _ c.kind_of.ensures c.in-Long.is
+returns-in-Long c = by_kind Malformed Blank ordering _ _ c.kind_of.ensures c.in-Long.is ∙ spoken_is _
 
 pub returns-in-Passed : goal.returns-in-Passed
-unfolding spoken_of command_of
-returns-in-Passed c = by_kind Malformed Blank ordering _ _ c.kind_of.ensures c.in-Passed.is
+returns-in-Passed c = by_kind Malformed Blank ordering _ _ c.kind_of.ensures c.in-Passed.is ∙ spoken_is _
 
 pub returns-in-Spoken : goal.returns-in-Spoken
-unfolding spoken_of command_of
-returns-in-Spoken c = let f = c in
-    c.order.ensures
-    ∙ ordered _ f.kind_of.ensures f.in-Spoken.is c.named-name.ensures f.first.ensures c.after-next.ensures
+returns-in-Spoken c = c.order.ensures
+    ∙ ordered _ c.kind_of.ensures c.in-Spoken.is c.named-name.ensures c.first.ensures c.after-next.ensures

@@ -1,5 +1,4 @@
 -- `script::takes` meets its contract: the row of each name.
-use borrow.Author.Rules.{rules}
 use Rattle.script.proofs.takes.Goals as goal
 
 pub returns-in-Other : goal.returns-in-Other

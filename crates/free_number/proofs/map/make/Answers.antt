@@ -12,8 +12,7 @@ pub is_used-requires : goal.is_used-requires
 is_used-requires c = node_within _ (sym c.node_fits.ensures ∙ c.if-not-node_fits.false)
 
 pub returns-then-is_used-used : goal.returns-then-is_used-used
-returns-then-is_used-used c = let k = c in
-    let a = k.args in
+returns-then-is_used-used c = let a = c.args in
     rw (
       c.refuse-then-is_used-used.ensures,
       sym c.node_fits.ensures ∙ c.if-not-node_fits.false,
@@ -24,8 +23,7 @@ pub turn-requires : goal.turn-requires
 turn-requires c = node_within _ (sym c.node_fits.ensures ∙ c.if-not-node_fits.false)
 
 pub returns : goal.returns
-returns c = let k = c in
-    let a = k.args in
+returns c = let a = c.args in
     rw (
       c.turn.ensures,
       sym c.node_fits.ensures ∙ c.if-not-node_fits.false,

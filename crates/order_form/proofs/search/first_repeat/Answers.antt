@@ -10,26 +10,21 @@ pub loop-k-init : goal.loop-k-init
 loop-k-init c = (omega arith, refl)
 
 pub returns-then-serial-k : goal.returns-then-serial-k
-returns-then-serial-k c = let q = c in
-    let a = q.args in
-    serial_here a.n a.rows q.loop-k.k (omega arith) c.loop-k-test.true q.loop-k.invariant.1 _ c.place-serial.ensures
+returns-then-serial-k c = let a = c.args in
+    serial_here a.n a.rows c.loop-k.k (omega arith) c.loop-k-test.true c.loop-k.invariant.1 _ c.place-serial.ensures
     c.if-serial-k.true
 
 pub returns-then-number-k : goal.returns-then-number-k
-returns-then-number-k c = let s = c in
-    let q = s in
-    let a = q.args in
-    number_here a.n a.rows q.loop-k.k (omega arith) s.loop-k-test.true q.loop-k.invariant.1 _ s.place-serial.ensures
-    s.if-serial-k.false _ c.place-number.ensures c.if-number-k.true
+returns-then-number-k c = let a = c.args in
+    number_here a.n a.rows c.loop-k.k (omega arith) c.loop-k-test.true c.loop-k.invariant.1 _ c.place-serial.ensures
+    c.if-serial-k.false _ c.place-number.ensures c.if-number-k.true
 
 pub loop-k-preserved : goal.loop-k-preserved
-loop-k-preserved c = let s = c in
-    let q = s in
-    let a = q.args in (
-      omega arith,
-      next a.n a.rows q.loop-k.k (omega arith) s.loop-k-test.true q.loop-k.invariant.1 _ s.place-serial.ensures
-          s.if-serial-k.false _ c.place-number.ensures c.if-number-k.false,
-    )
+loop-k-preserved c = let a = c.args in (
+  omega arith,
+  next a.n a.rows c.loop-k.k (omega arith) c.loop-k-test.true c.loop-k.invariant.1 _ c.place-serial.ensures
+      c.if-serial-k.false _ c.place-number.ensures c.if-number-k.false,
+)
 
 pub returns : goal.returns
 returns c = let a = c.args in

@@ -12,18 +12,16 @@ pub loop-i-init : goal.loop-i-init
 loop-i-init c = (omega arith, starts is_outside c.args.n c.args.rows)
 
 pub returns-then-not-node_fits : goal.returns-then-not-node_fits
-returns-then-not-node_fits c = let q = c in
-    let a = q.args in
-    here is_outside a.n a.rows q.loop-i.i (omega arith) c.loop-i-test.true q.loop-i.invariant.1
+returns-then-not-node_fits c = let a = c.args in
+    here is_outside a.n a.rows c.loop-i.i (omega arith) c.loop-i-test.true c.loop-i.invariant.1
     (ap not (sym c.node_fits.ensures ∙ c.if-not-node_fits.true))
 
 pub loop-i-preserved : goal.loop-i-preserved
-loop-i-preserved c = let q = c in
-    let a = q.args in (
-      omega arith,
-      next is_outside a.n a.rows q.loop-i.i (omega arith) c.loop-i-test.true q.loop-i.invariant.1
-          (ap not (sym c.node_fits.ensures ∙ c.if-not-node_fits.false)),
-    )
+loop-i-preserved c = let a = c.args in (
+  omega arith,
+  next is_outside a.n a.rows c.loop-i.i (omega arith) c.loop-i-test.true c.loop-i.invariant.1
+      (ap not (sym c.node_fits.ensures ∙ c.if-not-node_fits.false)),
+)
 
 pub returns : goal.returns
 returns c = let a = c.args in

@@ -12,18 +12,16 @@ pub loop-i-init : goal.loop-i-init
 loop-i-init c = (omega arith, starts (has c.args.column c.args.value) c.args.n c.args.rows)
 
 pub returns-then-value : goal.returns-then-value
-returns-then-value c = let q = c in
-    let a = q.args in
-    here (has a.column a.value) a.n a.rows q.loop-i.i (omega arith) c.loop-i-test.true q.loop-i.invariant.1
+returns-then-value c = let a = c.args in
+    here (has a.column a.value) a.n a.rows c.loop-i.i (omega arith) c.loop-i-test.true c.loop-i.invariant.1
     (eq-eqb _ _ (sym c.value.ensures ∙ c.if-value.true))
 
 pub loop-i-preserved : goal.loop-i-preserved
-loop-i-preserved c = let q = c in
-    let a = q.args in (
-      omega arith,
-      next (has a.column a.value) a.n a.rows q.loop-i.i (omega arith) c.loop-i-test.true q.loop-i.invariant.1
-          (ne_eqb _ _ (λ e. c.if-value.false (c.value.ensures ∙ e))),
-    )
+loop-i-preserved c = let a = c.args in (
+  omega arith,
+  next (has a.column a.value) a.n a.rows c.loop-i.i (omega arith) c.loop-i-test.true c.loop-i.invariant.1
+      (ne_eqb _ _ (λ e. c.if-value.false (c.value.ensures ∙ e))),
+)
 
 pub returns : goal.returns
 returns c = let a = c.args in

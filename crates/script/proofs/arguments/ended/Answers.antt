@@ -1,5 +1,4 @@
 -- `script::arguments::ended` meets its contract: one function for each kind of last word.
-use borrow.Author.Rules.{rules}
 use Rattle.script.proofs.arguments.ended.Goals as goal
 
 pub returns-in-Nothing : goal.returns-in-Nothing

@@ -1,13 +1,10 @@
 -- `script::arguments::read` meets its contract. The invariant: what the words from the first place on say is what those from the place `at` on say,
 -- from number i on.
 use Prim.Native.Nat.{◌-◌}
-use mathlib.Core.Path.{◌≡◌, refl, ◌∙◌}
-use native.Mathlib.Omega.{arith}
-use borrow.Author.Rules.{rules}
-use lib.ListN.{length, take, drop, length-set}
+use mathlib.Core.Path.{◌≡◌}
+use lib.ListN.{length, take, drop}
 use Rattle.script.specs.Places.{words_at}
-use Rattle.script.specs.Arguments.{no_numbers, arguments_from, arguments_of}
-use Rattle.script.proofs.Taken.{numbers_end, number_unfit, number_on}
+use Rattle.script.specs.Arguments.{no_numbers, arguments_from}
 use Rattle.script.proofs.arguments.read.Given as goal
 
 abbrev pub invariant-loop-i : goal.invariant-loop-i

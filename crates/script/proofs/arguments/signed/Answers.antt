@@ -7,11 +7,8 @@ use Rattle.script.proofs.Taken.{value_last}
 use Rattle.script.proofs.arguments.signed.Goals as goal
 
 pub returns-in-Is : goal.returns-in-Is
-returns-in-Is c = let v = c in
-    let k = v in
-    let back = to_z-of_z {w = w32} {z = v.in-Is.value} (record { sfits = c.in-Is.known_told-1-own.given.0.1 }) in
-    c.given.ensures ∙ rw back (value_last _ _ _ k.sole.ensures k.signed.ensures v.in-Is.is)
+returns-in-Is c = let back = to_z-of_z {w = w32} {z = c.in-Is.value} (record { sfits = search rules }) in
+    c.given.ensures ∙ rw back (value_last _ _ _ c.sole.ensures c.signed.ensures c.in-Is.is)
 
 pub returns-in-Unfit : goal.returns-in-Unfit
-returns-in-Unfit c = let k = c in
-    c.unfit.ensures ∙ value_last _ _ _ k.sole.ensures k.signed.ensures c.in-Unfit.is
+returns-in-Unfit c = c.unfit.ensures ∙ value_last _ _ _ c.sole.ensures c.signed.ensures c.in-Unfit.is

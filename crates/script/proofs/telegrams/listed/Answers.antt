@@ -3,7 +3,6 @@ use Prim.Native.Nat.{ℕ}
 use mathlib.Core.Path.{◌≡◌, refl, ◌∙◌}
 use mathlib.Core.Bool.{cond}
 use mathlib.Core.List.{List, [], ◌∷◌}
-use borrow.Author.Rules.{rules}
 use borrow.Author.Tests.{eq-eqb, ne_eqb}
 use lib.Dec.{eqb}
 use Rattle.text.specs.Numbers.{count_of}
@@ -54,12 +53,8 @@ returns-in-Passed c = by_kind Malformed Blank telegram_of _ _ c.kind_of.ensures 
 
 pub returns-then-hex_bytes-eq-TEN : goal.returns-then-hex_bytes-eq-TEN
 unfolding listed_of
-returns-then-hex_bytes-eq-TEN c = let n = c in
-    let k = n in
-    ten _ k.kind_of.ensures k.in-Spoken.is n.hex_bytes.ensures n.sole.ensures c.if-hex_bytes-eq-TEN.true
+returns-then-hex_bytes-eq-TEN c = ten _ c.kind_of.ensures c.in-Spoken.is c.hex_bytes.ensures c.sole.ensures c.if-hex_bytes-eq-TEN.true
 
 pub returns-else-hex_bytes-eq-TEN : goal.returns-else-hex_bytes-eq-TEN
 unfolding listed_of
-returns-else-hex_bytes-eq-TEN c = let n = c in
-    let k = n in
-    not-ten _ k.kind_of.ensures k.in-Spoken.is n.hex_bytes.ensures n.sole.ensures c.if-hex_bytes-eq-TEN.false
+returns-else-hex_bytes-eq-TEN c = not-ten _ c.kind_of.ensures c.in-Spoken.is c.hex_bytes.ensures c.sole.ensures c.if-hex_bytes-eq-TEN.false

@@ -1,5 +1,4 @@
 -- `script::words::after` meets its contract: the definition, function by function.
-use borrow.Author.Rules.{rules}
 use Rattle.script.specs.Places.{after_of}
 use Rattle.script.proofs.words.after.Goals as goal
 

@@ -1,10 +1,8 @@
 -- `script::words::end` meets its contract. The invariant: past the word from place i on is past the word from the first place on.
 use Prim.Native.Nat.{◌-◌}
-use mathlib.Core.Path.{◌≡◌, refl, sym, ◌∙◌}
-use native.Mathlib.Omega.{arith}
+use mathlib.Core.Path.{◌≡◌}
 use lib.ListN.{length}
 use Rattle.script.specs.Places.{end_of}
-use Rattle.script.proofs.Split.{end_on, end_here, end_past}
 use Rattle.script.proofs.words.end.Given as goal
 
 abbrev pub invariant-loop-i : goal.invariant-loop-i

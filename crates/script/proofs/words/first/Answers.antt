@@ -1,6 +1,5 @@
 -- `script::words::first` meets its contract: the first word is the part of the line from its start to its end.
 use mathlib.Core.Path.{sym}
-use borrow.Author.Rules.{rules}
 use Rattle.script.proofs.Split.{first_none, first_part, first_order, first_within}
 use Rattle.script.proofs.words.first.Goals as goal
 

@@ -1,5 +1,5 @@
 -- `script::words::is` meets its contract. The invariant: the words are the same where what is left of them is.
-use Prim.Native.Nat.{ℕ, ◌+◌, ◌-◌, ◌<◌, ◌≤◌}
+use Prim.Native.Nat.{ℕ, ◌+◌, ◌<◌, ◌≤◌}
 use mathlib.Core.Path.{◌≡◌, refl, sym, ◌∙◌}
 use mathlib.Core.Bool.{true, false}
 use mathlib.Core.List.{List, [], ◌∷◌}
@@ -33,27 +33,16 @@ both_end : (xs ys : List ℕ) (i : ℕ) → length xs ≤ i → length ys ≤ i 
 unfolding same_of
 both_end xs ys i ha hb = simp (drop_of_length-le xs ha, drop_of_length-le ys hb)
 
-returns : tie.Need-returns invariant-loop decreases-loop
-returns c = sym (other_length c.args.word.now c.args.name.now c.if-word-name.true)
+pub returns-then-word-name : goal.returns-then-word-name
+returns-then-word-name c = sym (other_length c.args.word.now c.args.name.now c.if-word-name.true)
 
-returns-2 : tie.Need-returns-2 invariant-loop decreases-loop
-returns-2 c =
-    let k = c in
-    sym (sym k.loop-i.invariant ∙ differs _ _ _ k.loop-i-test.true (omega arith) c.if-word-i.true)
-
-loop-again : tie.Need-loop-preserved invariant-loop decreases-loop
-loop-again c =
-    let k = c in
-    sym (on _ _ _ k.loop-i-test.true (omega arith) c.if-word-i.false) ∙ k.loop-i.invariant
-
-returns-3 : tie.Need-returns-3 invariant-loop decreases-loop
-returns-3 c = sym (both_end _ _ _ c.loop-i-test.false (omega arith)) ∙ c.loop-i.invariant
-
-pub bounds-name-i : goal.bounds-name-i
-bounds-name-i = eturns-
-
-pub loop-i-smaller : goal.loop-i-smaller
-loop-i-smaller = oop-agai
+pub returns-then-word-i : goal.returns-then-word-i
+returns-then-word-i c =
+    sym (sym c.loop-i.invariant ∙ differs _ _ _ c.loop-i-test.true (omega arith) c.if-word-i.true)
 
 pub loop-i-preserved : goal.loop-i-preserved
-loop-i-preserved = eturns-
+loop-i-preserved c =
+    sym (on _ _ _ c.loop-i-test.true (omega arith) c.if-word-i.false) ∙ c.loop-i.invariant
+
+pub returns : goal.returns
+returns c = sym (both_end _ _ _ c.loop-i-test.false (omega arith)) ∙ c.loop-i.invariant

@@ -1,10 +1,8 @@
 -- `script::words::start` meets its contract. The invariant: past the gaps from place i on is past the gaps from the first place on.
 use Prim.Native.Nat.{◌-◌}
-use mathlib.Core.Path.{◌≡◌, refl, sym, ◌∙◌}
-use native.Mathlib.Omega.{arith}
+use mathlib.Core.Path.{◌≡◌}
 use lib.ListN.{length}
 use Rattle.script.specs.Places.{start_of}
-use Rattle.script.proofs.Split.{start_on, start_here, start_past}
 use Rattle.script.proofs.words.start.Given as goal
 
 abbrev pub invariant-loop-i : goal.invariant-loop-i

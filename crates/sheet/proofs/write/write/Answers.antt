@@ -21,6 +21,7 @@ returns-clause-space_after c =
     let k = c.loop-k in
     let a = c.args in
     let e : k.k ≡ 274 = omega arith in
+    let room : 274 ≤ length a.space.now = omega arith in
     let n = sheet_length a.values (search rules) in
     let m : length (sheet_of a.values) ≤ 274 = omega arith in
-    k.invariant.2 ∙ simp (le-ltb _ _ c.if-space-lt-WHOLE.false) (rw (e, take_all 274 (sheet_of a.values) m))
+    k.invariant.2 ∙ simp (le-ltb _ _ room) (rw (e, take_all 274 (sheet_of a.values) m))
