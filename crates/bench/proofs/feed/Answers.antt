@@ -1,5 +1,6 @@
 -- A byte moves from what is left into the head.
-use Rattle.std.proofs.Common.{◌≡◌, ℕ, ◌+◌, ◌<◌, List, length, get_or, drop, sym, ap, ◌∙◌, add-one, drop-cons, drop-length, arith}
+use Rattle.std.proofs.Common.{◌≡◌, ℕ, ◌+◌, ◌<◌, List, length, get_or, drop, sym, ap, ◌∙◌, add-one, drop-cons, arith}
+use Rattle.std.proofs.Math.Seq.{drop-length}
 use Rattle.state.specs.declared.parts.Head.{Head}
 use Rattle.bench.specs.Bench.{fed_of, spoken_of}
 use Rattle.bench.specs.declared.Spoken.{Spoken}
