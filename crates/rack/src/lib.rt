@@ -1,5 +1,7 @@
 // A rack of telegrams in one call: up to 64 telegrams for a line, and their replies one after another in the space that is lent. 20 goes before 15, and
 // 15 before 16.
+#![tactic(auto)]
+
 ghost use Rattle.std.specs.Prelude.{◌≡◌, Bool, true, ◌+◌, ◌≤◌, length};
 ghost use Rattle.line.specs.Calls.{fits_of};
 ghost use Rattle.rack.specs.Rack.{is_rack, room_for, dropped_of, ten_at, fed_of, laid_at, laid_from, refused_with, racked, rack_of, rack_space_of};

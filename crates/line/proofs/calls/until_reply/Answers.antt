@@ -1,4 +1,4 @@
-use Rattle.std.proofs.Common.{◌≡◌, ◌+◌, ◌<◌, length, get_or, refl, sym, ◌∙◌, arith, rules}
+use Rattle.std.proofs.Common.{◌≡◌, ◌<◌, length, get_or, refl, sym, ◌∙◌, arith, rules}
 use lib.ListN.{drop_of_length-le}
 use Rattle.head.specs.Hear.{step_of}
 use Rattle.head.proofs.Passes.{step_more, step_told}
