@@ -44,7 +44,7 @@ use Rattle.head.proofs.Refused.{refused, unheeded_only}
 use Rattle.line.specs.Calls.{keys_of, keys_space_of}
 use Rattle.line.proofs.Theorems.{keys_one}
 use Rattle.demands.specs.Calls.{Calls, ◌▸◌, keys, Bytes}
-use Rattle.demands.specs.Past.{writes, casts, lockable, offerable, accepted, withdrawn, adopts, adopting, pressing, pressed, asked, grown, change, look, next, account, count, serials, entry, value, in_force}
+use Rattle.demands.specs.Past.{writes, casts, lockable, offerable, accepted, withdrawn, adopting, pressing, pressed, asked, grown, change, look, next, account, count, serials, entry, value, in_force}
 use Rattle.demands.specs.Run.{product, after, built, runs, run, head_in}
 use Rattle.demands.specs.Alone as alone
 use Rattle.demands.specs.Alone.{Taken, Announced}

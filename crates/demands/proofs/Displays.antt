@@ -45,8 +45,8 @@ use Rattle.head.specs.Outcome as alone
 use Rattle.head.proofs.Asked.{called_is}
 use Rattle.head.proofs.Keeps.{taken_stored}
 use Rattle.head.proofs.Tests.{either}
-use Rattle.demands.specs.Calls.{Ask, measure, power, load, Call, new_head, byte, tick, named, keys, dropped, Calls, ◌▸◌}
-use Rattle.demands.specs.Past.{accepted, may_add_of, grown, room, makes, names, account, count, serials, value}
+use Rattle.demands.specs.Calls.{Call, new_head, byte, tick, named, keys, dropped, Calls, ◌▸◌}
+use Rattle.demands.specs.Past.{accepted, may_add_of, grown, room, makes, names, account, count, serials}
 use Rattle.demands.specs.Run.{head_in, product, alone_of}
 use Rattle.demands.specs.Acts.{act_of, Acted}
 use Rattle.demands.specs.Alone.{Taken, setting, displays, stays, newly, key_gives, Keyed}

@@ -3,7 +3,6 @@
 use Prim.Native.Nat.{ℕ, zero, suc, ◌+◌, ◌*◌, ◌<◌, ◌≤◌}
 use mathlib.Core.Path.{◌≡◌, refl, sym, ap, ◌∙◌}
 use mathlib.Core.Bool.{Bool, true, false, true≢false, cond, and-false}
-use mathlib.Core.Logic.{◌≢◌}
 use mathlib.Core.List.{List, [], ◌∷◌}
 use mathlib.Core.Option.{Option, none, some}
 use native.Mathlib.Omega.{arith}
@@ -33,7 +32,7 @@ use Rattle.line.proofs.Theorems.{named_keeps, well_at}
 use Rattle.head.proofs.Serials.{asked_serial}
 use Rattle.head.proofs.Asked.{called_fits}
 use Rattle.demands.specs.Calls.{measure, power, load, bring, Call, new_head, byte, tick, named, keys, dropped, Calls, ◌▸◌}
-use Rattle.demands.specs.Past.{nothing, gives, names, asked, change, next, account, count, serials, entry, value, in_force}
+use Rattle.demands.specs.Past.{nothing, gives, names, asked, change, next, account, count, entry, value, in_force}
 use Rattle.demands.specs.Run.{product, ask_of, run, head_in}
 use Rattle.demands.specs.Alone.{setting, older}
 use Rattle.demands.specs.Lines.{ToOne}

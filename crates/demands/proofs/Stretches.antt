@@ -9,7 +9,6 @@ use mathlib.Core.Option.{none, some}
 use borrow.Author.Tests.{le-ltb}
 use lib.Dec.{ltb}
 use lib.ListN.{length}
-use Rattle.head.specs.declared.calls.Heard.TheVariants as heard
 use Rattle.line.specs.declared.calls.Line.{Line}
 use Rattle.line.specs.Calls.{fits_of}
 use Rattle.line.specs.Stretch.{stopped_at, heard_until, laid_until, until_of, until_space_of}
