@@ -50,7 +50,6 @@ fn put_number(line: Line, n: u64) -> Line
     put(line, text.as_bytes())
 }
 
-#[tactic(auto, using(crate::proofs::Put::one_piece))]
 fn silence() -> Line
     ensures result_value { written result ≡ silence_line }
     ensures count_in_bounds { result.count ≤ length result.text }
@@ -69,7 +68,6 @@ fn reply(ten: [u8; 10]) -> Line
 }
 
 // A refusal, by its number.
-#[tactic(auto, using(crate::proofs::Put::numbered))]
 fn refused(number: u32) -> Line
     ensures result_value { written result ≡ refused_line number }
     ensures count_in_bounds { result.count ≤ length result.text }
@@ -79,7 +77,6 @@ fn refused(number: u32) -> Line
 }
 
 // A line that is no telegram, by its number.
-#[tactic(auto, using(crate::proofs::Put::numbered))]
 pub(crate) fn error(number: u64) -> Line
     ensures result_value { written result ≡ error_line number }
     ensures count_in_bounds { result.count ≤ length result.text }
