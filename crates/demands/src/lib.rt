@@ -1,6 +1,8 @@
 // The three demands, stated over the definitions of the crates below (specs/) and proved (proofs/). The functions here do nothing: the contract of each is
 // one promise, and that they are proved says that each promise has its proof. Promises about the contracts themselves (specs/Real, Outcomes) have none
 // here, since no contract may cite what is made of a function's code; their proofs are checked as every other file of proofs/.
+#![tactic(auto)]
+
 ghost use Rattle.demands.specs.AutoId as auto_id;
 ghost use Rattle.demands.specs.Cases as cases;
 ghost use Rattle.demands.specs.Demand1.{Demand1};
