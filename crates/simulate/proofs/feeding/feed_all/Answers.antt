@@ -1,6 +1,5 @@
 -- A turn: the bytes go on further, and the line is that of feeding so many.
-use Rattle.std.proofs.Common.{◌≡◌, ◌<◌, ◌≤◌, length, refl, ◌∙◌, arith}
-use Rattle.simulate.specs.Feeding.{nth_of, fed_of}
+use Rattle.std.proofs.Common.{refl, arith}
 use Rattle.simulate.proofs.Bytes.{fed_none, fed_further}
 use Rattle.simulate.proofs.feeding.feed_all.Goals as goal
 
