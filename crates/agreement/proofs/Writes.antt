@@ -27,7 +27,6 @@ use Rattle.head.specs.declared.hear.Stepped.{Stepped}
 use Rattle.head.specs.Hear.{stepped}
 use Rattle.engine.specs.declared.Told.{Told}
 use Rattle.engine.specs.Addresses.{the39, place, is_stored}
-use Rattle.engine.specs.Shows.{value}
 use Rattle.engine.specs.Does.{store, reset, unlock, offer, calibrate, freeze, forget_errors, aim_first, aim_second, restart}
 use Rattle.engine.specs.Way.{hearing, silent, reply, response}
 use Rattle.engine.proofs.Shown.{current_is, differential_is}
