@@ -1,16 +1,16 @@
 -- Laws of the round that a byte and a tick make over the heads, and of a line that fits. None opens what a single head does.
 -- Assumes nothing.
 use Prim.Native.Nat.{ℕ, zero, suc, ◌+◌, ◌<◌, ◌≤◌}
-use mathlib.Core.Path.{◌≡◌, refl, sym, ap, ◌∙◌}
+use mathlib.Core.Path.{◌≡◌, refl, ap, ◌∙◌}
 use mathlib.Core.Logic.{◌≢◌}
 use mathlib.Core.Bool.{Bool, true, false, cond, ◌&&◌, and-true, and_assoc, and-eq-true_iff}
-use mathlib.Core.List.{List, map, [], ◌∷◌, ◌++◌, append_assoc, append-nil}
+use mathlib.Core.List.{List, [], ◌∷◌, ◌++◌, append_assoc, append-nil}
 use native.Mathlib.Omega.{arith}
 use native.Mathlib.Numerals.{add-one}
 use native.Mathlib.Nat.{le_of_suc-le-suc, not-suc-le-zero}
 use borrow.Author.Tests.{le-leb, lt-leb, leb-true, ne_eqb}
 use lib.Dec.{leb}
-use lib.ListN.{length, get_or, set, replicate, length-append, length-map}
+use lib.ListN.{length, get_or, set, replicate, length-append}
 use Rattle.state.specs.declared.parts.Head.{Head}
 use Rattle.state.specs.Wellformed.{wellformed_of}
 use Rattle.state.specs.Older.{passes_of}
@@ -223,10 +223,6 @@ pub set_back : {A : Type 0} (d : A) (i : ℕ) (xs : List A) → set xs i (get_or
 set_back d i [] = refl
 set_back d zero (x ∷ xs) = refl
 set_back d (suc i) (x ∷ xs) = rw (set_back d i xs)
-
--- what is known of an array in a struct speaks of its elements' parts: so many as these are the elements
-pub parts_long : {X Y : Type 0} (f : X → Y) (l : List X) (n : ℕ) → length (map f l) ≡ n → length l ≡ n
-parts_long f l n e = sym (length-map l f) ∙ e
 
 -- at a place of a list, the element that stands in for a missing one does not matter
 pub get_d_either : {A : Type 0} (d e : A) (i : ℕ) (xs : List A) → i < length xs → get_or xs i d ≡ get_or xs i e

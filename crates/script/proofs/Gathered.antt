@@ -2,7 +2,7 @@
 -- many are read.
 -- Assumes nothing.
 use Prim.Native.Nat.{ℕ, zero, suc, ◌+◌, ◌<◌}
-use mathlib.Core.Path.{◌≡◌, refl, ap, sym}
+use mathlib.Core.Path.{◌≡◌, refl, ap}
 use mathlib.Core.List.{List, [], ◌∷◌, ◌++◌}
 use native.Mathlib.Numerals.{add-one}
 use native.Mathlib.Omega.{arith}
@@ -29,7 +29,3 @@ read_at f (suc n) (suc i) p = read_at (λ (k : ℕ). f (suc k)) n i (omega arith
 pub gathered : (f : ℕ → ℕ) (room : List ℕ) (i : ℕ) {b : ℕ} → i < length room → b ≡ f i → take i room ≡ read f i
     → take (i + 1) (set room i b) ≡ read f (i + 1)
 gathered f room i {b} h e k = rw (add-one, take-suc-set room i b h, one_more f i, k, e)
-
--- so many bytes, where so many were gathered
-pub handed_size : (f : ℕ → ℕ) (n : ℕ) (bytes : List ℕ) → take n bytes ≡ read f n → n ≡ length (take n bytes)
-handed_size f n bytes is = sym (rw is (as_many f n))

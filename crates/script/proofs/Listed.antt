@@ -63,9 +63,6 @@ ten_read line e =
     let s = single line e in
     (ending line [] s.digits s.words s.starts s.counts (λ z. omega arith)).bytes
 
-pub ten_long : (line : List ℕ) {from : ℕ} (e : entry_of line ≡ Telegram from) → length (bytes_of (single line e).digits.chars) ≡ 10
-ten_long line e = rw (← ten_read line e)
-
 -- a line of more than 4,097 bytes is none, whatever stands in it: no reader needs more of it to know
 pub too_long : (line : List ℕ) → suc longest < length line → entry_of line ≡ Malformed
 unfolding entry_of listed_of

@@ -1,6 +1,5 @@
 pub mod Lists
 pub mod Bits
-pub mod Signed
 pub mod Laws
 pub mod Brought
 pub mod Edges
