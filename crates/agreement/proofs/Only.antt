@@ -5,8 +5,7 @@ use Prim.Native.Nat.{ℕ}
 use mathlib.Core.Path.{◌≡◌, refl, sym, ◌∙◌, ap}
 use mathlib.Core.Bool.{Bool, true, false}
 use mathlib.Core.List.{List, [], ◌∷◌}
-use native.Mathlib.Omega.{arith}
-use lib.ListN.{length, get_or, replicate}
+use lib.ListN.{get_or, replicate}
 use Rattle.state.specs.declared.parts.Head.{Head}
 use Rattle.state.specs.Wellformed.{ear_fits, wellformed_of}
 use Rattle.state.specs.With.{with_ear}
@@ -27,9 +26,6 @@ record Met (x : Answered) : Type 0 where
   taken : x.outcome ≡ Refused Malformed → ⊥
   quiet : x.outcome ≡ Silence → x.reply ≡ replicate 10 0
 
-none_some : {A : Type 0} (x : A) → [] ≡ x ∷ [] → ⊥
-none_some x e = let z : ◌≡◌ {A = ℕ} 0 1 = ap length e in omega arith
-
 parts : {h k : Head} {o p : Outcome} {r s : List ℕ} → h ≡ k → o ≡ p → r ≡ s
     → ◌≡◌ {A = Answered} (record { head = h; outcome = o; reply = r }) (record { head = k; outcome = p; reply = s })
 parts a b c = rw (a, b, c)
@@ -42,8 +38,8 @@ equal x y p q h d = go x.outcome refl y.outcome refl
     go Silence e (Refused Malformed) f = absurd (q.taken f)
     go Reply e (Refused Malformed) f = absurd (q.taken f)
     go Silence e Silence f = parts h (e ∙ sym f) (p.quiet e ∙ sym (q.quiet f))
-    go Silence e Reply f = absurd (none_some y.reply (rw (e, f) at d))
-    go Reply e Silence f = absurd (none_some x.reply (sym (rw (e, f) at d)))
+    go Silence e Reply f = let z : [] ≡ y.reply ∷ [] = rw (e, f) at d in cc
+    go Reply e Silence f = let z : x.reply ∷ [] ≡ [] = rw (e, f) at d in cc
     go Reply e Reply f = parts h (e ∙ sym f) (ap (λ (l : List (List ℕ)). get_or l 0 []) (rw (e, f) at d))
 
 module _ (e : Engine) (a : Agreement product e) (h : Head) (ten : List ℕ) (time : ℕ) (t : TenBytes ten) where

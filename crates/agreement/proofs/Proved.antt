@@ -1,5 +1,6 @@
 -- The promise: ten bytes in time are one telegram told to the head (demands, Whole), and the engine agrees with the head that is told it (Same).
 -- Assumes nothing.
+use Rattle.std.specs.Prelude.{Option, Some, None, is_some}
 use Prim.Native.Nat.{ℕ, suc, ◌<◌, ◌≤◌}
 use mathlib.Core.Path.{◌≡◌, refl, sym, ◌∙◌, ap, subst}
 use mathlib.Core.Bool.{Bool, true, false, cond}
@@ -8,7 +9,7 @@ use native.Mathlib.Omega.{arith}
 use lib.ListN.{length, get_or, take, replicate}
 use lib.Seq.{take-suc, take_all, length-take-le}
 use Rattle.wire.specs.Check.{hit_of}
-use Rattle.wire.specs.Telegram.{fields_of}
+use Rattle.wire.specs.Telegram.{fields_of, ten_in}
 use Rattle.state.specs.declared.parts.Head.{Head}
 use Rattle.state.specs.declared.parts.Ear.{Ear}
 use Rattle.state.specs.Wellformed.{wellformed_of}
@@ -16,7 +17,7 @@ use Rattle.state.specs.With.{with_ear}
 use Rattle.judge.specs.declared.judged.Judged.{Judged}
 use Rattle.judge.specs.Judged.{judged_of}
 use Rattle.effects.specs.Restart.{empty_ear, restarted_of}
-use Rattle.reply.proofs.Replies.{reply_sound, reply_quiet}
+use Rattle.reply.proofs.Replies.{reply_sound}
 use Rattle.head.specs.declared.hear.Stepped.{Stepped}
 use Rattle.head.specs.Hear as head
 use Rattle.head.specs.Hear.{standing_of, restarts_of, affected_of, tell_of, step_of}
@@ -76,11 +77,11 @@ ear_empty j h at = go (restarts_of j.deed)
 
 -- ---- the replies that an answer draws are those of the step that it is
 drawn_is : (x : Told) → said_by (as_stepped x) ≡ drawn (answered_by x)
-drawn_is x = go x.replied
+drawn_is x = go x.reply
   where
-    go : (b : Bool) → said_by (record { head = x.head; replied = b; reply = x.reply }) ≡ drawn (answered_by (record { head = x.head; replied = b; reply = x.reply }))
-    go true = refl
-    go false = refl
+    go : (o : Option (List ℕ)) → said_by (record { head = x.head; reply = o }) ≡ drawn (answered_by (record { head = x.head; reply = o }))
+    go (Some ten) = refl
+    go None = refl
 
 module _ (h : Head) (ten : List ℕ) (τ : ℕ → ℕ) (space : List ℕ) (i : Idle h) (t : TenBytes ten) (g : Given τ space) (well : wellformed_of h ≡ true) where
   same : as_stepped (told_of h ten (τ 9)) ≡ tell_of h ten (τ 9)
@@ -170,12 +171,12 @@ unfolding computing
 delivered_idle = record { none = refl; places = refl }
 
 -- ---- 20
-taken_so : (b : Bool) → cond b Reply Silence ≡ Refused Malformed → ⊥
-taken_so true e = let z : ◌≡◌ {A = ℕ} 0 1 = cc in omega arith
-taken_so false e = let z : ◌≡◌ {A = ℕ} 0 1 = cc in omega arith
+taken_so : (o : Option (List ℕ)) → cond (is_some o) Reply Silence ≡ Refused Malformed → ⊥
+taken_so (Some ten) e = cc
+taken_so None e = cc
 
 takes_is : (h : Head) (ten : List ℕ) (at : ℕ) → wellformed_of h ≡ true → (answer_of h ten at).outcome ≡ Refused Malformed → ⊥
-takes_is h ten at w e = taken_so (told_of h ten at).replied (sym (ap (λ (x : Answered). x.outcome) (taken_is h ten at w)) ∙ e)
+takes_is h ten at w e = taken_so (told_of h ten at).reply (sym (ap (λ (x : Answered). x.outcome) (taken_is h ten at w)) ∙ e)
 
 -- ---- bytes gathered are not looked at
 drops_is : (h : Head) (ear : Ear) (ten : List ℕ) (at : ℕ) → TenBytes ten → wellformed_of h ≡ true → wellformed_of (with_ear h ear) ≡ true
@@ -185,16 +186,13 @@ drops_is h ear ten at t w v =
     let e : as_stepped (told_of (with_ear h ear) ten at) ≡ as_stepped (told_of h ten at) =
     agree (with_ear h ear) ten at s.0 s.1 ∙ tell_apart h ear ten at ∙ sym (agree h ten at s.0 s.1) in
     taken_is (with_ear h ear) ten at v
-    ∙ ap (λ (x : Stepped). answered_by (record { head = x.head; replied = x.replied; reply = x.reply })) e
+    ∙ ap (λ (x : Stepped). answered_by (record { head = x.head; reply = x.reply })) e
     ∙ sym (taken_is h ten at w)
 
 -- ---- replies pass their own check
-is_reply : (b : Bool) → cond b Reply Silence ≡ Reply → b ≡ true
-is_reply true e = refl
-is_reply false e = let z : ◌≡◌ {A = ℕ} 0 1 = cc in absurd (omega arith)
-
-no_reply_lem : Refused Malformed ≡ Reply → ⊥
-no_reply_lem e = let z : ◌≡◌ {A = ℕ} 0 1 = cc in omega arith
+is_reply : (o : Option (List ℕ)) → cond (is_some o) Reply Silence ≡ Reply → is_some o ≡ true
+is_reply (Some ten) e = refl
+is_reply None e = cc
 
 sound_is : (h : Head) (ten : List ℕ) (at : ℕ) (w : Bool) → wellformed_of h ≡ w → TenBytes ten → (answer_of h ten at).outcome ≡ Reply → hit_of (answer_of h ten at).reply ≡ 0
 unfolding tell_of
@@ -202,28 +200,22 @@ sound_is h ten at true w t e =
     let s = fields_small ten t in
     let a = agree h ten at s.0 s.1 in
     let j = judged_of ten (standing_of h) in
-    let r = is_reply (told_of h ten at).replied (sym (ap (λ (x : Answered). x.outcome) (taken_is h ten at w)) ∙ e) in
+    let r = is_reply (told_of h ten at).reply (sym (ap (λ (x : Answered). x.outcome) (taken_is h ten at w)) ∙ e) in
     ap (λ (x : Answered). hit_of x.reply) (taken_is h ten at w)
-    ∙ ap (λ (x : Stepped). hit_of x.reply) a
-    ∙ reply_sound j h (head.told_of j h at) (sym (ap (λ (x : Stepped). x.replied) a) ∙ r)
-sound_is h ten at false w t e = absurd (no_reply_lem (sym (ap (λ (x : Answered). x.outcome) (refused_is h ten at w)) ∙ e))
+    ∙ ap (λ (x : Stepped). hit_of (ten_in x.reply)) a
+    ∙ reply_sound j h (head.told_of j h at) (sym (ap (λ (x : Stepped). is_some x.reply) a) ∙ r)
+sound_is h ten at false w t e = let z : Refused Malformed ≡ Reply = sym (ap (λ (x : Answered). x.outcome) (refused_is h ten at w)) ∙ e in cc
 
 -- ---- silence leaves ten bytes of 0
-is_silence : (b : Bool) → cond b Reply Silence ≡ Silence → b ≡ false
-is_silence false e = refl
-is_silence true e = let z : ◌≡◌ {A = ℕ} 0 1 = cc in absurd (omega arith)
+is_quiet : (o : Option (List ℕ)) → cond (is_some o) Reply Silence ≡ Silence → ten_in o ≡ replicate 10 0
+is_quiet (Some ten) e = cc
+is_quiet None e = refl
 
-quiet_is : (h : Head) (ten : List ℕ) (at : ℕ) (w : Bool) → wellformed_of h ≡ w → TenBytes ten → (answer_of h ten at).outcome ≡ Silence → (answer_of h ten at).reply ≡ replicate 10 0
-unfolding tell_of
-quiet_is h ten at true w t e =
-    let s = fields_small ten t in
-    let a = agree h ten at s.0 s.1 in
-    let j = judged_of ten (standing_of h) in
-    let r = is_silence (told_of h ten at).replied (sym (ap (λ (x : Answered). x.outcome) (taken_is h ten at w)) ∙ e) in
+quiet_is : (h : Head) (ten : List ℕ) (at : ℕ) (w : Bool) → wellformed_of h ≡ w → (answer_of h ten at).outcome ≡ Silence → (answer_of h ten at).reply ≡ replicate 10 0
+quiet_is h ten at true w e =
     ap (λ (x : Answered). x.reply) (taken_is h ten at w)
-    ∙ ap (λ (x : Stepped). x.reply) a
-    ∙ reply_quiet j h (head.told_of j h at) (sym (ap (λ (x : Stepped). x.replied) a) ∙ r)
-quiet_is h ten at false w t e = ap (λ (x : Answered). x.reply) (refused_is h ten at w)
+    ∙ is_quiet (told_of h ten at).reply (sym (ap (λ (x : Answered). x.outcome) (taken_is h ten at w)) ∙ e)
+quiet_is h ten at false w e = ap (λ (x : Answered). x.reply) (refused_is h ten at w)
 
 pub agreement : Agreement product answer_of
 agreement =
@@ -235,7 +227,7 @@ agreement =
       desks = λ tens a. (all_is (map at_once tens) (factory_of 0) (replicate 10 0) delivered_idle (all_at_once tens a)).0;
       refuses = refused_is;
       takes = takes_is;
-      quiet = λ h ten at t. quiet_is h ten at (wellformed_of h) refl t;
+      quiet = λ h ten at t. quiet_is h ten at (wellformed_of h) refl;
       drops = drops_is;
       sound = λ h ten at t. sound_is h ten at (wellformed_of h) refl t;
     }

@@ -1,5 +1,6 @@
 -- What is answered: each of the engine's answers, by the address, is the head's reply to what stands behind that address.
 -- Assumes nothing.
+use Rattle.std.specs.Prelude.{Some, None, Option}
 use Prim.Native.Nat.{ℕ, ◌-◌, ◌≤◌}
 use mathlib.Core.Path.{◌≡◌, refl, sym, ◌∙◌, ap, subst}
 use mathlib.Core.Bool.{Bool, true, false, cond, and-eq-true_iff, true≢false}
@@ -15,8 +16,6 @@ use Rattle.signed.specs.Number.{word_of}
 use Rattle.rows.specs.declared.kind.Kind.{Kind}
 use Rattle.rows.specs.declared.kind.Kind.TheVariants.{WriteOnly, Unknown}
 use Rattle.rows.specs.declared.kind.Order.TheVariants.{System, Calibration, Interlock, Freezing, Assignment}
-use Rattle.rows.specs.declared.table.Place.{Place}
-use Rattle.rows.specs.declared.table.Place.TheVariants.{At, Nowhere}
 use Rattle.rows.specs.Table.{rows, place_of, is_at}
 use Rattle.rows.specs.Kinds.{other_of, kind_of}
 use Rattle.judge.specs.declared.command.Command.{Command}
@@ -109,18 +108,18 @@ module _ (t : Telegram) (hit : ℕ) (h : Head) (at : ℕ) (c : Command) (k : Kin
   unfolding ReadAt kind_of read_of shown_by carried_of keeps_old the39
   read_stored a s = go (place_of a) refl
     where
-      go : (p : Place) → place_of a ≡ p → ReadAt a
-      go (At i) e = rw (s, e, not_stored a 0xFA refl s, not_stored a 0xFE refl s, place_is a e) (plain a _)
-      go Nowhere e = absurd (true≢false (sym s ∙ sym (stored_is a) ∙ ap is_at e))
+      go : (p : Option ℕ) → place_of a ≡ p → ReadAt a
+      go (Some i) e = rw (s, e, not_stored a 0xFA refl s, not_stored a 0xFE refl s, place_is a e) (plain a _)
+      go None e = absurd (true≢false (sym s ∙ sym (stored_is a) ∙ ap is_at e))
 
   -- no other is one of the 39, and none of them stands behind it
   pub nowhere : (a : ℕ) → is_stored a ≡ false → kind_of a ≡ other_of a
   unfolding kind_of
   nowhere a s = go (place_of a) refl
     where
-      go : (p : Place) → place_of a ≡ p → kind_of a ≡ other_of a
-      go (At i) e = absurd (true≢false (sym (ap is_at e) ∙ stored_is a ∙ s))
-      go Nowhere e = rw e
+      go : (p : Option ℕ) → place_of a ≡ p → kind_of a ≡ other_of a
+      go (Some i) e = absurd (true≢false (sym (ap is_at e) ∙ stored_is a ∙ s))
+      go None e = rw e
 
   -- 81h to 8Ah: the errors in the memory
   read_error : (a : ℕ) → is_stored a ≡ false → within 0x81 0x8A a ≡ true → ReadAt a

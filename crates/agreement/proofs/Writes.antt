@@ -1,5 +1,6 @@
 -- What a write or a broadcast comes to: by the address, the engine's answer is the head's reply to the deed that stands behind that address.
 -- Assumes nothing.
+use Rattle.std.specs.Prelude.{Some, None, Option}
 use Prim.Native.Nat.{ℕ}
 use mathlib.Core.Path.{◌≡◌, refl, sym, ◌∙◌, ap}
 use mathlib.Core.Bool.{Bool, true, false, cond, not, ◌&&◌, true≢false}
@@ -9,8 +10,6 @@ use Rattle.rows.specs.declared.kind.Kind.{Kind}
 use Rattle.rows.specs.declared.kind.Kind.TheVariants.{WriteOnly}
 use Rattle.rows.specs.declared.kind.Order.{Order}
 use Rattle.rows.specs.declared.kind.Order.TheVariants.{System, Calibration, Interlock, Freezing, Assignment}
-use Rattle.rows.specs.declared.table.Place.{Place}
-use Rattle.rows.specs.declared.table.Place.TheVariants.{At, Nowhere}
 use Rattle.rows.specs.Table.{rows, place_of, is_at}
 use Rattle.rows.specs.Kinds.{other_of, kind_of}
 use Rattle.rows.proofs.Groups.{order_at, other_has}
@@ -105,11 +104,11 @@ module _ (t : Telegram) (hit : ℕ) (h : Head) (at : ℕ) (c : Command) (k : Kin
   unfolding WriteAt kind_of done_by answer_of keeps_old the39
   write_stored a s = go (place_of a) refl
     where
-      go : (p : Place) → place_of a ≡ p → WriteAt a
-      go (At i) e =
+      go : (p : Option ℕ) → place_of a ≡ p → WriteAt a
+      go (Some i) e =
           rw (s, e, not_stored a 0xD2 refl s, not_stored a 0xFF refl s, ← place_is a e)
           (newly a t.value t.value _ (Store (place a) t.value) refl (store_after t hit h at c k a t.value) refl)
-      go Nowhere e = absurd (true≢false (sym s ∙ sym (stored_is a) ∙ ap is_at e))
+      go None e = absurd (true≢false (sym s ∙ sym (stored_is a) ∙ ap is_at e))
 
   write_system : WriteAt 0xA0
   unfolding WriteAt kind_of place_of rows other_of done_by system_of answer_of keeps_old the39

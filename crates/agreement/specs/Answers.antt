@@ -8,7 +8,7 @@ use Rattle.engine.specs.declared.Outcome.{Outcome}
 use Rattle.engine.specs.declared.Outcome.TheVariants.{Silence, Reply, Refused}
 
 abbrev pub as_stepped : Told → Stepped
-as_stepped x = record { head = x.head; replied = x.replied; reply = x.reply }
+as_stepped x = record { head = x.head; reply = x.reply }
 
 abbrev pub drawn_by : Outcome → List ℕ → List (List ℕ)
 drawn_by Silence x = []

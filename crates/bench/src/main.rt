@@ -2,41 +2,29 @@
 // hex digits.
 #![tactic(auto)]
 
-mod failing;
-
 ghost use Rattle.std.specs.Prelude.{◌≡◌};
 ghost use Rattle.bench.specs.Bench.{replied_of, spoken_of, fed_of};
 
 use head::calls;
-use head::calls::Heard;
+use head::refusal::Refusal;
 use state::parts::Head;
 use std::io;
 use std::io::{Print, Read};
 use std::process::ExitCode;
+use text::failing::Failure;
 
-// What a byte draws: the head after it, and the line of its reply where there is one.
+// The head after a byte, and the line of its reply where there is one.
 #[derive(Clone, Copy)]
 struct Spoken {
     head: Head,
-    replied: bool,
-    line: [u8; 21],
-}
-
-// The head after some bytes, and whether all replies could be written.
-#[derive(Clone, Copy)]
-struct Bench {
-    head: Head,
-    written: io::Result<()>,
+    reply: Option<[u8; 21]>,
 }
 
 #[tactic(auto, unfolding(crate::specs::Bench::replied_of))]
-fn replied(heard: Heard) -> bool
+fn replied(heard: Result<usize, Refusal>) -> bool
     ensures { result ≡ replied_of heard }
 {
-    match heard {
-        Heard::Replies(n) => 0 < n,
-        Heard::Refused(_) => false,
-    }
+    matches!(heard, Ok(1..))
 }
 
 fn speak(h: Head, b: u8) -> Spoken
@@ -46,76 +34,47 @@ fn speak(h: Head, b: u8) -> Spoken
     let f = calls::byte(h, b, 0, &mut space);
     let mut line = [b'\n'; 21];
     hex_digits::spell(&space, &mut line);
-    let head = f.head;
-    let heard = f.heard;
     Spoken {
-        head: head,
-        replied: replied(heard),
-        line: line,
+        head: f.head,
+        reply: if replied(f.heard) { Some(line) } else { None },
     }
 }
 
 // Each byte in turn, and the line of each reply at once.
-fn feed(rt: &impl Print, h: Head, bytes: &[u8]) -> Bench
-    ensures { result.head ≡ fed_of h bytes.now }
+fn feed(rt: &impl Print, head: &mut Head, bytes: &[u8]) -> io::Result<()>
+    ensures { head.new ≡ fed_of head.old bytes.now }
 {
-    let mut head = h;
-    let mut written: io::Result<()> = Ok(());
-    let mut i: usize = 0;
-    while i < bytes.len() {
-        let s = speak(head, bytes[i]);
-        head = s.head;
-        i += 1;
-        if s.replied {
-            let line = s.line;
+    let mut written = Ok(());
+    for b in bytes {
+        let s = speak(*head, *b);
+        *head = s.head;
+        if let Some(line) = s.reply {
             written = written.and(rt.write_all(&line));
         }
     }
-    Bench {
-        head: head,
-        written: written,
-    }
+    written
 }
 
-// What came of one read.
-enum Brought {
-    Next(Head),
-    Ended,
-    Failed,
-}
-
-// What one read brings. What goes wrong is told at once.
-fn turn(rt: &(impl Print + Eprint + Alloc), input: &mut impl Read, h: Head) -> Brought {
-    let mut piece = [0u8; 4096];
-    match input.read(&mut piece) {
-        Ok(0) => Brought::Ended,
-        Ok(n) => {
-            let b = feed(rt, h, &piece[..n]);
-            match b.written {
-                Ok(()) => Brought::Next(b.head),
-                Err(why) => {
-                    failing::tell(rt, "standard output", why);
-                    Brought::Failed
-                }
-            }
-        }
-        Err(why) => {
-            failing::tell(rt, "standard input", why);
-            Brought::Failed
-        }
-    }
-}
-
-// A proved loop has to end, and nothing says that the input does: the turns count up to a number that no run uses up.
-fn main(rt: HostRuntime) -> ExitCode {
-    let mut input = rt.reader();
+// All of the input. A proved loop has to end, and nothing says that the input does: the turns count up to a number that no run uses up.
+fn read(rt: &impl Print, input: &mut impl Read) -> Result<(), Failure> {
     let mut head = calls::factory(0);
+    let mut piece = [0u8; 4096];
     for _ in 0..u64::MAX {
-        match turn(&rt, &mut input, head) {
-            Brought::Next(after) => head = after,
-            Brought::Ended => return ExitCode::SUCCESS,
-            Brought::Failed => return ExitCode::FAILURE,
+        let n = input.read(&mut piece).map_err(Failure::Input)?;
+        if n == 0 {
+            break;
+        }
+        feed(rt, &mut head, &piece[..n]).map_err(Failure::Output)?;
+    }
+    Ok(())
+}
+
+fn main(rt: HostRuntime) -> ExitCode {
+    match read(&rt, &mut rt.reader()) {
+        Ok(()) => ExitCode::SUCCESS,
+        Err(failure) => {
+            let _ = eprintln!(rt; "{failure}");
+            ExitCode::FAILURE
         }
     }
-    ExitCode::SUCCESS
 }

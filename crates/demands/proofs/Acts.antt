@@ -1,11 +1,11 @@
 -- What an accepted write or broadcast does, by its address: each deed by itself, and which of them an address is.
 -- Assumes nothing.
+use Rattle.std.specs.Prelude.{None}
 use Prim.Native.Nat.{ℕ}
 use mathlib.Core.Path.{◌≡◌, refl, sym, ◌∙◌, ap}
 use mathlib.Core.Bool.{Bool, true, false, cond, not, ◌&&◌, ◌||◌, or-false, true≢false}
 use borrow.Author.Tests.{eqb-true}
 use lib.Dec.{eqb}
-use Rattle.rows.specs.declared.table.Place.TheVariants.{Nowhere}
 use Rattle.rows.specs.Table.{place_of}
 use Rattle.rows.specs.Kinds.{kind_of}
 use Rattle.judge.specs.declared.deed.Deed.{Deed}
@@ -129,7 +129,7 @@ module _ (h : Head) (f : Faults) (pending-is : f.pending ≡ h.faults.pending) (
       go false p true q = rw (eqb-true v 8 q) (emptying 8 w)
       go false p false q = rw (p, q, n) (rests (Reset v) v w refl refl refl)
 
-  other_acts : (a v w : ℕ) → place_of a ≡ Nowhere → eqb a 0xA0 ≡ false → eqb a 0xA8 ≡ false → eqb a 0xD2 ≡ false
+  other_acts : (a v w : ℕ) → place_of a ≡ None → eqb a 0xA0 ≡ false → eqb a 0xA8 ≡ false → eqb a 0xD2 ≡ false
       → Acted h (after (done_by (kind_of a) v w)) (act_of a v) v w
   unfolding done_by targets_by measurement_by faults_by
   other_acts a v w e p q r = go (eqb a 0xFB) refl (eqb a 0xFF) refl (eqb a 0xA7) refl (eqb a 0xAA) refl

@@ -1,5 +1,6 @@
 -- What power, a tick, a measurement and a key state do to a head alone: each sentence, by the tests that it names.
 -- Assumes nothing.
+use Rattle.std.specs.Prelude.{Ok, Some}
 use Prim.Native.Nat.{ℕ, ◌<◌, ◌≤◌}
 use native.Mathlib.Omega.{arith}
 use mathlib.Core.Path.{◌≡◌, refl, sym, ◌∙◌, ap}
@@ -32,9 +33,7 @@ use Rattle.effects.specs.Aimed.{no_targets, settled_of, lacking_of, all_given_of
 use Rattle.effects.specs.Restart.{empty_ear, stopped, restarted_of, adopted_of, fresh_of}
 use Rattle.reply.specs.Reply.{adoption_of}
 use Rattle.reply.proofs.Replies.{adoption_sound, adoption_ten}
-use Rattle.head.specs.declared.calls.Answer.TheVariants as answer
 use Rattle.head.specs.declared.calls.Called.{Called}
-use Rattle.head.specs.declared.calls.Heard.TheVariants as heard
 use Rattle.head.specs.Hear.{elapsed_of}
 use Rattle.head.specs.Moves.{overdue_of, ticked_of, measured_of, pressed_of, left_of, star_of, star_taken, keyed_of}
 use Rattle.head.specs.Outcome as alone
@@ -217,25 +216,25 @@ abbrev Never : Type 0
 Never = ◌≡◌ {A = ℕ} 0 1
 
 -- what is done was not refused: of a test and what it leads to
-taken : (P : Called → Type 0) (b : Bool) (c d : Called) → (d.answer ≡ answer.Done → Never) → (c.answer ≡ answer.Done → P c)
-    → (cond b c d).answer ≡ answer.Done → P (cond b c d)
+taken : (P : Called → Type 0) (b : Bool) (c d : Called) → (d.answer ≡ (Ok tt) → Never) → (c.answer ≡ (Ok tt) → P c)
+    → (cond b c d).answer ≡ (Ok tt) → P (cond b c d)
 taken P true c d n y e = y e
 taken P false c d n y e = let z = n e in absurd (omega arith)
 
 module _ (h : Head) where
-  pub powers : (alone.called alone.power h).answer ≡ answer.Done → Restarted h (alone.called alone.power h).head
+  pub powers : (alone.called alone.power h).answer ≡ (Ok tt) → Restarted h (alone.called alone.power h).head
   unfolding alone.called power_of
   powers = taken (λ c. Restarted h c.head) (wellformed_of h) _ _ (λ e. cc) (λ _. restarted h)
 
-  pub brings : (alone.called alone.bring h).answer ≡ answer.Done → Brought h (alone.called alone.bring h).head
+  pub brings : (alone.called alone.bring h).answer ≡ (Ok tt) → Brought h (alone.called alone.bring h).head
   unfolding alone.called bring_of
   brings = taken (λ c. Brought h c.head) (older_fits h) _ _ (λ e. cc) (λ _. brought h)
 
-  pub ticks : (t : ℕ) → (alone.called (alone.tick t) h).answer ≡ answer.Done → Ticked h (alone.called (alone.tick t) h).head t
+  pub ticks : (t : ℕ) → (alone.called (alone.tick t) h).answer ≡ (Ok tt) → Ticked h (alone.called (alone.tick t) h).head t
   unfolding alone.called tick_of
   ticks t = taken (λ c. Ticked h c.head t) (wellformed_of h) _ _ (λ e. cc) (λ _. ticked h t)
 
-  pub measures : (m : ℤ) → (alone.called (alone.measure m) h).answer ≡ answer.Done → Measured h (alone.called (alone.measure m) h).head m
+  pub measures : (m : ℤ) → (alone.called (alone.measure m) h).answer ≡ (Ok tt) → Measured h (alone.called (alone.measure m) h).head m
   unfolding alone.called measure_of
   measures m =
       taken (λ c. Measured h c.head m) (wellformed_of h) _ _ (λ e. cc)
@@ -268,7 +267,7 @@ unfolding keyed_of pressed_of
 keyed_plain h s e = rw e
 
 keyed_adopts : (h : Head) (s : ℕ) → adopts h s ≡ true
-    → keyed_of h s ≡ record { head = adopted_of (star_taken h s); replied = true; reply = adoption_of (status_of h) h.stored.offer }
+    → keyed_of h s ≡ record { head = adopted_of (star_taken h s); reply = Some (adoption_of (status_of h) h.stored.offer) }
 unfolding keyed_of pressed_of
 keyed_adopts h s e = rw e
 
@@ -280,13 +279,13 @@ module _ (h : Head) (s : ℕ) (space : List ℕ) (k : Taken h space) (few : s �
       let p = le-leb s 7 few in let r = le-ltb (length space) 10 k.room in (rw (k.well, p, r), rw (k.well, p, r))
 
   pub presses : adopts h s ≡ false
-      → Keyed h (keys_of h s (length space)).head s × ((keys_of h s (length space)).heard ≡ heard.Replies 0) × (keys_space_of h s space ≡ space)
+      → Keyed h (keys_of h s (length space)).head s × ((keys_of h s (length space)).heard ≡ Ok 0) × (keys_space_of h s space ≡ space)
   presses e =
       rw (keys_taken.0, keys_taken.1, keyed_plain h s e) (keyed h s, refl, refl)
 
   pub adopting : adopts h s ≡ true
       → Adopted h (keys_of h s (length space)).head s
-      × ((keys_of h s (length space)).heard ≡ heard.Replies 1)
+      × ((keys_of h s (length space)).heard ≡ Ok 1)
       × Announced h space (keys_space_of h s space)
   adopting e =
       rw (keys_taken.0, keys_taken.1, keyed_adopts h s e) (adopted h s k.well, refl, announced h space k)
@@ -297,6 +296,6 @@ unfolding fresh_of restarted_of restarted_stored restarted_faults restarted_meas
 fresh node serial =
     record { restarted = restarted (fresh_of node serial); memory = refl; unlocked = refl; m = refl; zero = refl; adopted = refl; values = fresh_values node }
 
-pub makes : (node serial : ℕ) → (made_of node serial).answer ≡ answer.Done → New (made_of node serial).head node
+pub makes : (node serial : ℕ) → (made_of node serial).answer ≡ (Ok tt) → New (made_of node serial).head node
 unfolding made_of
 makes node serial = taken (λ c. New c.head node) (node_fits node) _ _ (λ e. cc) (λ _. fresh node serial)

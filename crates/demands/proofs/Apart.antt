@@ -5,6 +5,8 @@ use mathlib.Core.Path.{◌≡◌, refl, sym, subst}
 use mathlib.Core.Bool.{Bool, true, false, cond}
 use mathlib.Core.List.{List}
 use lib.Dec.{ltb}
+use Rattle.std.specs.Prelude.{is_some}
+use Rattle.wire.specs.Telegram.{ten_in}
 use Rattle.state.specs.declared.parts.Head.{Head}
 use Rattle.state.specs.declared.parts.Ear.{Ear}
 use Rattle.state.specs.Wellformed.{wellformed_of}
@@ -17,7 +19,7 @@ use Rattle.head.proofs.Passes.{unanswered}
 
 -- ---- a byte: the same reply, and heads that are alike, of whatever that says
 abbrev pub Steps : (Head → Head → Type 0) → Stepped → Stepped → Type 0
-Steps Alike s r = (s.replied ≡ r.replied) × (s.reply ≡ r.reply) × Alike s.head r.head
+Steps Alike s r = (is_some s.reply ≡ is_some r.reply) × (ten_in s.reply ≡ ten_in r.reply) × Alike s.head r.head
 
 module _ (Alike : Head → Head → Type 0) (k h : Head) where
   abbrev Same : Stepped → Stepped → Type 0
@@ -30,8 +32,8 @@ module _ (Alike : Head → Head → Type 0) (k h : Head) where
     where
       go : (g : Gathered) → Same (step_by k g t) (step_by h g t)
       go g =
-          elim g.whole as (λ w. Same (cond w (tell_of k g.ten t) (unanswered (with_ear k g.ear))) (cond w (tell_of h g.ten t) (unanswered (with_ear h g.ear))))
-          [ true ↦ tells g.ten t | false ↦ (refl, refl, idle g.ear) ]
+          elim (is_some g.ten) as (λ w. Same (cond w (tell_of k (ten_in g.ten) t) (unanswered (with_ear k g.ear))) (cond w (tell_of h (ten_in g.ten) t) (unanswered (with_ear h g.ear))))
+          [ true ↦ tells (ten_in g.ten) t | false ↦ (refl, refl, idle g.ear) ]
 
   module _ (alike : Alike k h) (well : wellformed_of k ≡ wellformed_of h) (b t : ℕ) (s : Same (step_of k b t) (step_of h b t)) where
     pub hears : (n : ℕ) → let f = byte_of k b t n in let g = byte_of h b t n in (f.heard ≡ g.heard) × Alike f.head g.head

@@ -1,6 +1,7 @@
 -- Auto-ID, proved: the verdict on a telegram of D2h computes, and what it does to the offer is told by its deed; a key state that adopts is one call of the
 -- account, with which the head agrees (Sim).
 -- Assumes nothing.
+use Rattle.std.specs.Prelude.{Ok, is_some}
 use Prim.Native.Nat.{ℕ, ◌<◌, ◌≤◌}
 use native.Mathlib.Omega.{arith}
 use mathlib.Core.Path.{◌≡◌, refl, ◌∙◌, ap}
@@ -13,7 +14,7 @@ use lib.ListN.{length}
 use Rattle.wire.specs.declared.telegram.Telegram.{Telegram}
 use Rattle.wire.specs.declared.fault.Fault.TheVariants.{Below, Above, NoAccess, ReadRefused, DeviceState}
 use Rattle.wire.specs.Check.{hit_of}
-use Rattle.wire.specs.Telegram.{fields_of}
+use Rattle.wire.specs.Telegram.{fields_of, ten_in}
 use Rattle.rows.specs.Kinds.{kind_of}
 use Rattle.rows.proofs.Groups.{either}
 use Rattle.judge.specs.declared.deed.Deed.{Deed}
@@ -37,7 +38,6 @@ use Rattle.effects.specs.Aimed.{targets_by}
 use Rattle.effects.proofs.Turns.{turned_same}
 use Rattle.reply.specs.Reply.{silence, value_reply, reply_of}
 use Rattle.reply.proofs.Replies.{silent_none}
-use Rattle.head.specs.declared.calls.Heard.TheVariants as heard
 use Rattle.head.specs.Hear.{gathered_of, standing_of, restarts_of, told_of, passed_of}
 use Rattle.head.specs.Moves.{pressed_of}
 use Rattle.head.proofs.Refused.{refused, unheeded_only}
@@ -88,7 +88,7 @@ module _ (h : Head) (ten : List ℕ) where
     unfolding judged_of deed_of done_by command_of
     offers = rw (obeyed, a.commanded, a.assigns, assignment_kind)
 
-    mute : (after : Head) → (reply_of j h after).replied ≡ false
+    mute : (after : Head) → is_some (reply_of j h after) ≡ false
     unfolding judged_of reply_of value_reply silence command_of
     mute after = rw (obeyed, a.commanded, a.assigns)
 
@@ -197,31 +197,31 @@ pub offers_met : Offers product
 offers_met =
     record {
       remembers = λ h b t space k e a n low high.
-          let ten = (gathered_of h.ear b t).ten in
+          let ten = ten_in (gathered_of h.ear b t).ten in
           let s = keeps_silent h b t space k e (mute h ten a n low high _) in
           (s.0, s.1, rw (obeys h b t space k e) (told_passed h ten t a n low high));
       drops = dropped;
-      elsewhere = λ h b t space k e a n. refused_told h b t space k e DeviceState (elsewhere h (gathered_of h.ear b t).ten a n);
-      unread = λ h b t space k e a. refused_told h b t space k e ReadRefused (unread h (gathered_of h.ear b t).ten a);
-      above = λ h b t space k e c l a. refused_told h b t space k e NoAccess (beyond h (gathered_of h.ear b t).ten c l a);
+      elsewhere = λ h b t space k e a n. refused_told h b t space k e DeviceState (elsewhere h (ten_in (gathered_of h.ear b t).ten) a n);
+      unread = λ h b t space k e a. refused_told h b t space k e ReadRefused (unread h (ten_in (gathered_of h.ear b t).ten) a);
+      above = λ h b t space k e c l a. refused_told h b t space k e NoAccess (beyond h (ten_in (gathered_of h.ear b t).ten) c l a);
       uncast = λ h b t space k e s c p.
-          let v = uncast h (gathered_of h.ear b t).ten s c p in
+          let v = uncast h (ten_in (gathered_of h.ear b t).ten) s c p in
           let q = keeps_silent h b t space k e (silent_none _ h _ v) in
-          (q.0, q.1, rw (obeys h b t space k e) (told_silent h (gathered_of h.ear b t).ten t s v));
+          (q.0, q.1, rw (obeys h b t space k e) (told_silent h (ten_in (gathered_of h.ear b t).ten) t s v));
       leaves = λ h b t space k e quiet n.
-          ap (λ (x : Head). x.stored.offer) (obeys h b t space k e) ∙ told_leaves h (gathered_of h.ear b t).ten quiet t n;
+          ap (λ (x : Head). x.stored.offer) (obeys h b t space k e) ∙ told_leaves h (ten_in (gathered_of h.ear b t).ten) quiet t n;
     }
   where
-    dropped : (h : Head) (b t : ℕ) (space : List ℕ) → Taken h space → (gathered_of h.ear b t).whole ≡ true
-        → let ten = (gathered_of h.ear b t).ten in Assigns h ten 1 → h.stored.number ≡ 31 → ((fields_of ten).value ≡ 0) ⊎ (31 < (fields_of ten).value)
+    dropped : (h : Head) (b t : ℕ) (space : List ℕ) → Taken h space → is_some (gathered_of h.ear b t).ten ≡ true
+        → let ten = ten_in (gathered_of h.ear b t).ten in Assigns h ten 1 → h.stored.number ≡ 31 → ((fields_of ten).value ≡ 0) ⊎ (31 < (fields_of ten).value)
         → Complains (product.on_head.byte h b t (length space)).heard (product.on_head.space h b t space) (cond (eqb (fields_of ten).value 0) 0x0182 0x0282)
         × ((product.on_head.byte h b t (length space)).head.stored.offer ≡ 0)
     dropped h b t space k e a n (inl v) =
-        let ten = (gathered_of h.ear b t).ten in
+        let ten = ten_in (gathered_of h.ear b t).ten in
         let is = below h ten a n v in
         rw v (refused_told h b t space k e Below is, ap (λ (x : Head). x.stored.offer) (obeys h b t space k e) ∙ told_drop h ten t a.assigns (inl is))
     dropped h b t space k e a n (inr v) =
-        let ten = (gathered_of h.ear b t).ten in
+        let ten = ten_in (gathered_of h.ear b t).ten in
         let is = above h ten a n v in
         rw (ne_eqb (fields_of ten).value 0 (λ z. omega arith))
         (refused_told h b t space k e Above is, ap (λ (x : Head). x.stored.offer) (obeys h b t space k e) ∙ told_drop h ten t a.assigns (inr is))
@@ -274,7 +274,7 @@ module _ (cs : Calls) (k s : ℕ) (space : List ℕ) (a : TakenAt cs k s (length
   same = adopts_is (head_in cs k) (entry cs k) (sim cs k a.there) s
 
   told : adopts_at cs k s ≡ true
-      → ((keys_of (run cs) k s (length space)).heard ≡ heard.Replies 1)
+      → ((keys_of (run cs) k s (length space)).heard ≡ Ok 1)
       × Announced (head_in cs k) space (keys_space_of (run cs) k s space)
       × ((head_in cs k).stored.offer ≡ offer_at cs k)
   told e =
@@ -283,7 +283,7 @@ module _ (cs : Calls) (k s : ℕ) (space : List ℕ) (a : TakenAt cs k s (length
       (p.1 ∙ d.1, rw p.2 d.2, (sim cs k a.there).offer_is)
 
   silent : adopts_at cs k s ≡ false
-      → ((keys_of (run cs) k s (length space)).heard ≡ heard.Replies 0)
+      → ((keys_of (run cs) k s (length space)).heard ≡ Ok 0)
       × (keys_space_of (run cs) k s space ≡ space)
       × ((head_in (cs ▸ keys k s (length space)) k).stored ≡ (head_in cs k).stored)
   unfolding runs after

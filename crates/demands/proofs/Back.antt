@@ -10,8 +10,9 @@ use borrow.Author.Tests.{le-ltb, eq-eqb, ne_eqb}
 use lib.Dec.{eqb}
 use lib.ListN.{length, take, drop}
 use lib.Seq.{take_at}
+use Rattle.std.specs.Prelude.{is_some}
 use Rattle.wire.specs.Check.{hit_of}
-use Rattle.wire.specs.Telegram.{fields_of, nine_of, bytes_of}
+use Rattle.wire.specs.Telegram.{fields_of, nine_of, bytes_of, ten_in}
 use Rattle.wire.proofs.Laws.{word_bytes, built_sound}
 use Rattle.rows.specs.declared.access.Access.TheVariants.{ReadWrite}
 use Rattle.rows.specs.declared.kind.Kind.TheVariants.{Stored}
@@ -94,10 +95,10 @@ sent_value f r word v small = word_bytes v small
 
 -- ---- the byte calls of a head that is well-formed, with ten bytes of space, are its steps
 module _ (space : List ℕ) (wide : 10 ≤ length space) where
-  pub call_said : (h : Head) (b t : ℕ) (x : Bool) → wellformed_of h ≡ true → (step_of h b t).replied ≡ x
+  pub call_said : (h : Head) (b t : ℕ) (x : Bool) → wellformed_of h ≡ true → is_some (step_of h b t).reply ≡ x
       → replied (byte_of h b t (length space)).heard (take 10 (byte_space_of h b t space)) ≡ said_by (step_of h b t)
   unfolding byte_of byte_space_of laid_on_of
-  call_said h b t true w e = simp (w, le-ltb (length space) 10 wide, e, take_at (step_of h b t).reply (drop 10 space) 10 (step_ten h b t))
+  call_said h b t true w e = simp (w, le-ltb (length space) 10 wide, e, take_at (ten_in (step_of h b t).reply) (drop 10 space) 10 (step_ten h b t))
   call_said h b t false w e = simp (w, le-ltb (length space) 10 wide, e)
 
   pub call_fed : (h : Head) (b t : ℕ) → wellformed_of h ≡ true → (byte_of h b t (length space)).head ≡ (step_of h b t).head
@@ -107,7 +108,7 @@ module _ (space : List ℕ) (wide : 10 ≤ length space) where
   pub calls_said : (bs : List ℕ) (τ : ℕ → ℕ) (i : ℕ) (h : Head) → wellformed_of h ≡ true → answers built bs τ i h space ≡ said bs τ i h
   calls_said [] τ i h w = refl
   calls_said (b ∷ bs) τ i h w =
-      rw (call_said h b (τ i) (step_of h b (τ i)).replied w refl, call_fed h b (τ i) w, calls_said bs τ (suc i) (step_of h b (τ i)).head (step_fits h b (τ i) w))
+      rw (call_said h b (τ i) (is_some (step_of h b (τ i)).reply) w refl, call_fed h b (τ i) w, calls_said bs τ (suc i) (step_of h b (τ i)).head (step_fits h b (τ i) w))
 
 -- ---- ten bytes
 module _ (h : Head) (f r v : ℕ) (lt : r < 39) (well : wellformed_of h ≡ true) (force_is : h.stored.number ≡ f)

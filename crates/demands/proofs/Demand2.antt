@@ -4,6 +4,7 @@ use native.Mathlib.Omega.{arith}
 use mathlib.Core.Path.{refl}
 use lib.Dec.{ltb}
 use lib.ListN.{length}
+use Rattle.std.specs.Prelude.{is_some}
 use Rattle.state.specs.Wellformed.{wellformed_of}
 use Rattle.state.proofs.Laws.{remembers}
 use Rattle.head.specs.Hear.{step_of}
@@ -25,7 +26,7 @@ demand2 =
       obeys = obeys;
       answers = answers;
       keeps_silent = keeps_silent;
-      head_sound = λ h b t space. head_sound h b t space (wellformed_of h) (ltb (length space) 10) (step_of h b t).replied refl refl refl;
+      head_sound = λ h b t space. head_sound h b t space (wellformed_of h) (ltb (length space) 10) (is_some (step_of h b t).reply) refl refl refl;
       line_sound = λ l b t space. line_sound l b t space (line.fits_of l) (ltb (length space) 10) refl refl;
       every = every;
       bits = bits;

@@ -8,10 +8,11 @@ use mathlib.Core.List.{List, [], ◌∷◌}
 use native.Mathlib.Omega.{arith}
 use borrow.Author.Tests.{ne_eqb}
 use lib.Dec.{leb, eqb}
-use lib.ListN.{length, get_or, set, replicate}
+use lib.ListN.{length, get_or, set}
 use lib.Seq.{get_or-set_other}
 use lib.IntN.{ℤ}
-use Rattle.wire.specs.Telegram.{fields_of}
+use Rattle.std.specs.Prelude.{Some, None, is_some}
+use Rattle.wire.specs.Telegram.{fields_of, ten_in}
 use Rattle.wire.proofs.Laws.{bytes_word}
 use Rattle.judge.specs.declared.deed.Deed.{Deed}
 use Rattle.judge.specs.declared.deed.Deed.TheVariants.{Nothing, Store, Reset, Restart, Calibrate, Forget, Unlock, Freeze, Aim1, Aim2, ClearStatic, Release, Offer, Withdraw}
@@ -278,10 +279,10 @@ module _ (j : Judged) (h : Head) (at : ℕ) where
 -- a byte
 byte_steps : (h : Head) (b at : ℕ) → Steps h (step_of h b at).head
 unfolding step_of tell_of
-byte_steps h b at = go (gathered_of h.ear b at).whole
+byte_steps h b at = go (is_some (gathered_of h.ear b at).ten)
   where
-    go : (whole : Bool) → Steps h (cond {A = Stepped} whole (tell_of h (gathered_of h.ear b at).ten at) (record { head = with_ear h (gathered_of h.ear b at).ear; replied = false; reply = replicate 10 0 })).head
-    go true = told_steps (judged_of (gathered_of h.ear b at).ten (standing_of h)) h at
+    go : (whole : Bool) → Steps h (cond {A = Stepped} whole (tell_of h (ten_in (gathered_of h.ear b at).ten) at) (record { head = with_ear h (gathered_of h.ear b at).ear; reply = None })).head
+    go true = told_steps (judged_of (ten_in (gathered_of h.ear b at).ten) (standing_of h)) h at
     go false = still h (with_ear h (gathered_of h.ear b at).ear) refl refl
 
 -- ---- the other calls
@@ -330,7 +331,7 @@ keys_steps : (h : Head) (s : ℕ) → Steps h (keyed_of h s).head
 unfolding keyed_of
 keys_steps h s = go (adopts_of h s)
   where
-    go : (b : Bool) → Steps h (cond {A = Stepped} b (record { head = adopted_of (star_taken h s); replied = true; reply = adoption_of (status_of h) h.stored.offer }) (record { head = star_taken h s; replied = false; reply = replicate 10 0 })).head
+    go : (b : Bool) → Steps h (cond {A = Stepped} b (record { head = adopted_of (star_taken h s); reply = Some (adoption_of (status_of h) h.stored.offer) }) (record { head = star_taken h s; reply = None })).head
     go true = adopted_steps h s
     go false = keyed_steps h _ s (keyed h s)
 
@@ -426,9 +427,9 @@ module _ (ten : List ℕ) (byte : (i : ℕ) → get_or ten i 0 < 256) where
       let e = bytes_word (get_or ten 5 0) (get_or ten 6 0) (get_or ten 7 0) (get_or ten 8 0) (byte 5) (byte 6) (byte 7) (byte 8) in
       record { fourth = e.3; third = e.2; second = e.1; first = e.0 }
 
-module _ (h : Head) (b t : ℕ) (space : List ℕ) (k : Taken h space) (e : (gathered_of h.ear b t).whole ≡ true) where
+module _ (h : Head) (b t : ℕ) (space : List ℕ) (k : Taken h space) (e : is_some (gathered_of h.ear b t).ten ≡ true) where
   abbrev ten : List ℕ
-  ten = (gathered_of h.ear b t).ten
+  ten = ten_in (gathered_of h.ear b t).ten
 
   abbrev after : Head
   after = (head.byte_of h b t (length space)).head

@@ -10,8 +10,10 @@ use native.Mathlib.Omega.{arith}
 use native.Mathlib.Numerals.{add-one}
 use borrow.Author.Tests.{lt-ltb, le-ltb, leb-true, leb-false}
 use lib.Dec.{leb, ltb}
-use lib.ListN.{length, take, set, replicate, length-append, length-set}
+use lib.ListN.{length, take, set, length-append, length-set}
 use lib.Seq.{length-take-le, take_all, take-suc-set}
+use Rattle.std.specs.Prelude.{None, is_some}
+use Rattle.wire.specs.Telegram.{ten_in}
 use Rattle.judge.specs.Judged.{judged_of}
 use Rattle.state.specs.declared.parts.Head.{Head}
 use Rattle.state.specs.declared.parts.Ear.{Ear}
@@ -33,7 +35,7 @@ pub record Gathered (h : Head) (g : past.Ear) : Type 0 where
 
 -- a byte that ends no telegram: no reply, the stored part as it was, and the byte is gathered
 pub record Short (h : Head) (g : past.Ear) (b t : ℕ) : Type 0 where
-  pub no_reply_lem : (step_of h b t).replied ≡ false
+  pub no_reply_lem : is_some (step_of h b t).reply ≡ false
   pub stored : (step_of h b t).head.stored ≡ h.stored
   pub more : Gathered (step_of h b t).head (record { bytes = gather g b t; last = t })
 
@@ -101,7 +103,7 @@ module _ (h : Head) (g : past.Ear) (b t : ℕ) (e : Gathered h g) where
   long_is : length (gather g b t) ≡ ear.count + 1
   long_is = rw (gather_is g b t, length-append, count_is ear (before g.bytes g.last t) inside)
 
-  short_is : ear.count < 9 → step_of h b t ≡ record { head = with_ear h (one_more_of ear b t); replied = false; reply = replicate 10 0 }
+  short_is : ear.count < 9 → step_of h b t ≡ record { head = with_ear h (one_more_of ear b t); reply = None }
   unfolding step_of gathered_of
   short_is p = rw (lt-ltb ear.count 9 p)
 
@@ -129,7 +131,7 @@ ear_short h g b t e n =
     let p : (kept_ear h.ear t).count < 9 = omega (arith, long_is h g b t e) in
     let is = short_is h g b t e p in
     record {
-      no_reply_lem = ap (λ (s : Stepped). s.replied) is;
+      no_reply_lem = ap (λ (s : Stepped). is_some s.reply) is;
       stored = ap (λ (s : Stepped). s.head.stored) is;
       more = subst (λ (s : Stepped). Gathered s.head (record { bytes = gather g b t; last = t })) (sym is) (one_more h g b t e p);
     }
@@ -151,7 +153,7 @@ module _ (h : Head) (b t : ℕ) (few : h.ear.count ≤ 9) (long : length h.ear.b
   own_got : Gathered h own
   own_got = record { few = few; long = long; got_is = refl; time_is = inr refl }
 
-  pub heard_whole : 10 ≤ length (gather own b t) → ((gathered_of h.ear b t).whole ≡ true) × ((gathered_of h.ear b t).ten ≡ gather own b t)
+  pub heard_whole : 10 ≤ length (gather own b t) → (is_some (gathered_of h.ear b t).ten ≡ true) × (ten_in (gathered_of h.ear b t).ten ≡ gather own b t)
   unfolding gathered_of
   heard_whole n =
       let q : 9 ≤ (kept_ear h.ear t).count = omega (arith, long_is h own b t own_got) in
@@ -161,7 +163,7 @@ module _ (h : Head) (b t : ℕ) (few : h.ear.count ≤ 9) (long : length h.ear.b
       rw (le-ltb (kept_ear h.ear t).count 9 q) (refl, ten)
 
   pub heard_short : length (gather own b t) < 10
-      → ((gathered_of h.ear b t).whole ≡ false) × (take (gathered_of h.ear b t).ear.count (gathered_of h.ear b t).ear.bytes ≡ gather own b t)
+      → (is_some (gathered_of h.ear b t).ten ≡ false) × (take (gathered_of h.ear b t).ear.count (gathered_of h.ear b t).ear.bytes ≡ gather own b t)
   unfolding gathered_of
   heard_short n =
       let p : (kept_ear h.ear t).count < 9 = omega (arith, long_is h own b t own_got) in

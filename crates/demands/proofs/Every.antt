@@ -1,6 +1,7 @@
 -- What is the same for every telegram: the laws of Telling over the byte call; and an error reply, an accepted write and a telegram that is passed over, each
 -- known by what can be seen of it.
 -- Assumes nothing.
+use Rattle.std.specs.Prelude.{Ok, is_some}
 use Prim.Native.Nat.{ℕ, ◌<◌, ◌≤◌}
 use native.Mathlib.Omega.{arith}
 use mathlib.Core.Path.{◌≡◌, refl, sym, ◌∙◌, ap, subst}
@@ -16,7 +17,7 @@ use Rattle.wire.specs.declared.fault.Fault.TheVariants.{NoAccess}
 use Rattle.wire.specs.declared.telegram.Telegram.{Telegram}
 use Rattle.wire.specs.Check.{hit_of}
 use Rattle.wire.specs.Faults.{code_of}
-use Rattle.wire.specs.Telegram.{fields_of}
+use Rattle.wire.specs.Telegram.{fields_of, ten_in}
 use Rattle.wire.specs.Word.{byte0}
 use Rattle.signed.proofs.Laws.{word_fits}
 use Rattle.rows.specs.declared.access.Access.TheVariants.{ReadOnly}
@@ -50,7 +51,6 @@ use Rattle.effects.specs.Aimed.{settled_of, second_aimed, given_of, turned_of, t
 use Rattle.effects.specs.Restart.{empty_ear}
 use Rattle.reply.specs.Reply.{answer_of, reply_of}
 use Rattle.reply.proofs.Replies.{silent_none, cast_none}
-use Rattle.head.specs.declared.calls.Heard.TheVariants as heard
 use Rattle.head.specs.Hear.{gathered_of, standing_of, started_of, told_of, passes_of, passed_of, tell_of, restarts_of}
 use Rattle.head.specs.declared.hear.Stepped.{Stepped}
 use Rattle.head.proofs.Again.{told_stored, told_ear}
@@ -118,15 +118,15 @@ odd ten s v p (inl n) = n p
 odd ten s v p (inr (inl n)) = n (only_read (hit_of ten) (fields_of ten) s v p)
 odd ten s v p (inr (inr n)) = n (obeyed_sound (hit_of ten) (fields_of ten) s v)
 
-errs : (h : Head) (b t : ℕ) (space : List ℕ) → Taken h space → (gathered_of h.ear b t).whole ≡ true
-    → let ten = (gathered_of h.ear b t).ten in
+errs : (h : Head) (b t : ℕ) (space : List ℕ) → Taken h space → is_some (gathered_of h.ear b t).ten ≡ true
+    → let ten = ten_in (gathered_of h.ear b t).ten in
     let x = fields_of (take 10 (product.on_head.space h b t space)) in
-    (product.on_head.byte h b t (length space)).heard ≡ heard.Replies 1 → x.parameter ≡ 0xFD
+    (product.on_head.byte h b t (length space)).heard ≡ Ok 1 → x.parameter ≡ 0xFD
     → ((fields_of ten).parameter ≢ 0xFD) ⊎ (((fields_of ten).command ≢ 0) ⊎ (hit_of ten ≢ 0))
     → Complained h (product.on_head.byte h b t (length space)).head (hit_of ten) x.value
 unfolding judged_of reply_of
 errs h b t space k e one fd other =
-    let ten = (gathered_of h.ear b t).ten in
+    let ten = ten_in (gathered_of h.ear b t).ten in
     let x = fields_of (take 10 (product.on_head.space h b t space)) in
     heeded h b t space k e one (Complained h (product.on_head.byte h b t (length space)).head (hit_of ten) x.value)
     (λ v own loud. absurd (odd ten (standing_of h) v (sym own ∙ fd) other))
@@ -187,9 +187,9 @@ read_inputs j h t a v (inl e) = rw (e, v) (counted_inputs j.hit h.faults)
 read_inputs j h t a v (inr (inl (e, p))) = rw (e, v) (counted_inputs j.hit h.faults)
 read_inputs j h t a v (inr (inr (e, p))) = rw (e, v) (counted_inputs j.hit h.faults)
 
-module _ (h : Head) (b t : ℕ) (space : List ℕ) (k : Taken h space) (e : (gathered_of h.ear b t).whole ≡ true) where
+module _ (h : Head) (b t : ℕ) (space : List ℕ) (k : Taken h space) (e : is_some (gathered_of h.ear b t).ten ≡ true) where
   abbrev ten : List ℕ
-  ten = (gathered_of h.ear b t).ten
+  ten = ten_in (gathered_of h.ear b t).ten
 
   abbrev x : Telegram
   x = fields_of (take 10 (product.on_head.space h b t space))
@@ -201,12 +201,12 @@ module _ (h : Head) (b t : ℕ) (space : List ℕ) (k : Taken h space) (e : (gat
 
     told_write : (fields_of ten).command ≡ 1 → (fields_of ten).parameter ≢ 0xD2
         → let v = answer_of (fields_of ten).parameter h (fields_of ten).value in
-        ((product.on_head.byte h b t (length space)).heard ≡ heard.Replies 1) × (x.parameter ≡ (fields_of ten).parameter) × (v < 4294967296 → x.value ≡ v)
+        ((product.on_head.byte h b t (length space)).heard ≡ Ok 1) × (x.parameter ≡ (fields_of ten).parameter) × (v < 4294967296 → x.value ≡ v)
     unfolding judged_of command_of
     told_write c p = said_told h b t space k e _ obeyed (write_says (judging h b t) h _ (rw c) (ne_eqb _ 0xD2 p))
 
     written : (fields_of ten).command ≡ 1 → (fields_of ten).parameter ≢ 0xD2
-        → ((product.on_head.byte h b t (length space)).heard ≡ heard.Replies 1)
+        → ((product.on_head.byte h b t (length space)).heard ≡ Ok 1)
         × (x.parameter ≡ (fields_of ten).parameter)
         × ((fields_of ten).parameter ≢ 0xFF → (fields_of ten).value < 4294967296 → x.value ≡ (fields_of ten).value)
     written c p =
@@ -266,13 +266,13 @@ module _ (h : Head) (b t : ℕ) (space : List ℕ) (k : Taken h space) (e : (gat
       rw (s, ne_eqb (fields_of ten).command 0 (λ z. omega arith), ne_eqb (fields_of ten).command 1 (λ z. omega arith), ne_eqb (fields_of ten).command 2 (λ z. omega arith), eq-eqb _ _ n)
 
   above : hit_of ten ≡ 0 → 2 < (fields_of ten).command → (fields_of ten).node ≡ h.stored.number
-      → ((product.on_head.byte h b t (length space)).heard ≡ heard.Replies 1) × (x.parameter ≡ 0xFD) × (x.value ≡ 0x0084)
+      → ((product.on_head.byte h b t (length space)).heard ≡ Ok 1) × (x.parameter ≡ 0xFD) × (x.value ≡ 0x0084)
   above s c n = refused_told h b t space k e NoAccess (above_is s c n)
 
   -- ---- a read of what may be read is answered
   read : hit_of ten ≡ 0 → (fields_of ten).command ≡ 0 → (fields_of ten).node ≡ h.stored.number → readable (access_of (fields_of ten).parameter) ≡ true
       → ((fields_of ten).parameter ≡ 0x96 → byte0 (fields_of ten).value ≤ h.faults.inputs.count)
-      → ((product.on_head.byte h b t (length space)).heard ≡ heard.Replies 1)
+      → ((product.on_head.byte h b t (length space)).heard ≡ Ok 1)
       × (x.parameter ≡ (fields_of ten).parameter)
       × ((product.on_head.byte h b t (length space)).head.faults.inputs ≡ h.faults.inputs)
   unfolding judged_of standing_of command_of
@@ -287,7 +287,7 @@ module _ (h : Head) (b t : ℕ) (space : List ℕ) (k : Taken h space) (e : (gat
       go false p = refl
 
   -- ---- a broadcast is not answered
-  casts : (fields_of ten).command ≡ 2 → ((product.on_head.byte h b t (length space)).heard ≡ heard.Replies 0) × (product.on_head.space h b t space ≡ space)
+  casts : (fields_of ten).command ≡ 2 → ((product.on_head.byte h b t (length space)).heard ≡ Ok 0) × (product.on_head.space h b t space ≡ space)
   unfolding judged_of command_of
   casts c =
       keeps_silent h b t space k e
@@ -299,17 +299,17 @@ unfolding passed_of counted_of started_of empty_ear
 passed_keeps h t =
     record { values = refl; number = refl; baud = refl; unlocked = refl; offer = refl; memory = refl; inputs = refl; pending = refl; hit = refl; damaged = refl; measurement = refl; targets = refl; monitor = refl; gathered = refl; keys = refl }
 
-passes : (h : Head) (b t : ℕ) (space : List ℕ) → Taken h space → (gathered_of h.ear b t).whole ≡ true
-    → let ten = (gathered_of h.ear b t).ten in
+passes : (h : Head) (b t : ℕ) (space : List ℕ) → Taken h space → is_some (gathered_of h.ear b t).ten ≡ true
+    → let ten = ten_in (gathered_of h.ear b t).ten in
     hit_of ten ≡ 0 → (fields_of ten).command ≢ 2 → (fields_of ten).node ≢ h.stored.number
-    → ((product.on_head.byte h b t (length space)).heard ≡ heard.Replies 0)
+    → ((product.on_head.byte h b t (length space)).heard ≡ Ok 0)
     × (product.on_head.space h b t space ≡ space)
     × Passed h (product.on_head.byte h b t (length space)).head t h.stored.offer
 unfolding tell_of passes_of fields_of
 passes h b t space k e s c n =
-    let ten = (gathered_of h.ear b t).ten in
+    let ten = ten_in (gathered_of h.ear b t).ten in
     let told = passes_tell ten h t (rw (s, ne_eqb _ 2 c, ne_eqb _ _ n)) in
-    let still = keeps_silent h b t space k e (ap (λ (x : Stepped). x.replied) told) in
+    let still = keeps_silent h b t space k e (ap (λ (x : Stepped). is_some x.reply) told) in
     (still.0, still.1, rw (obeys h b t space k e ∙ ap (λ (x : Stepped). x.head) told) (passed_keeps h t))
 
 -- ---- a broadcast that is not accepted
@@ -317,20 +317,20 @@ pub silent_is : (h : Head) (ten : List ℕ) (at : ℕ) → let j = judged_of ten
 unfolding passed_of complained_of judged_of
 silent_is h ten at s v = unheeded_only h ten at (rw v silent) ∙ rw (v, s)
 
-uncast : (h : Head) (b t : ℕ) (space : List ℕ) → Taken h space → (gathered_of h.ear b t).whole ≡ true
-    → let ten = (gathered_of h.ear b t).ten in
+uncast : (h : Head) (b t : ℕ) (space : List ℕ) → Taken h space → is_some (gathered_of h.ear b t).ten ≡ true
+    → let ten = ten_in (gathered_of h.ear b t).ten in
     hit_of ten ≡ 0 → (fields_of ten).command ≡ 2 → accepted h.stored.number (locked h) ten ≡ false
-    → ((product.on_head.byte h b t (length space)).heard ≡ heard.Replies 0)
+    → ((product.on_head.byte h b t (length space)).heard ≡ Ok 0)
     × (product.on_head.space h b t space ≡ space)
     × Passed h (product.on_head.byte h b t (length space)).head t h.stored.offer
 unfolding judged_of standing_of locked_of command_of
 uncast h b t space k e s c unmet = go (judging h b t).verdict refl
   where
     ten : List ℕ
-    ten = (gathered_of h.ear b t).ten
+    ten = ten_in (gathered_of h.ear b t).ten
 
     go : (v : Verdict) → (judging h b t).verdict ≡ v
-        → ((product.on_head.byte h b t (length space)).heard ≡ heard.Replies 0)
+        → ((product.on_head.byte h b t (length space)).heard ≡ Ok 0)
         × (product.on_head.space h b t space ≡ space)
         × Passed h (product.on_head.byte h b t (length space)).head t h.stored.offer
     go Obeyed v = absurd (true≢false (rw (v, c) at (accepted_is ten (standing_of h) ∙ unmet)))
@@ -344,14 +344,14 @@ every =
     record {
       copies = copies;
       polls = λ h b t space k e c.
-          rw (obeys h b t space k e) (read_polls (gathered_of h.ear b t).ten h t c);
+          rw (obeys h b t space k e) (read_polls (ten_in (gathered_of h.ear b t).ten) h t c);
       sets = λ h b t space k e c r lt p.
-          rw (obeys h b t space k e) (setting_keeps _ h t (write_sets (gathered_of h.ear b t).ten h r lt c p));
-      starts = λ h b t space k e s n. rw (obeys h b t space k e) (told_starts (gathered_of h.ear b t).ten h t s n);
-      spares = λ h b t space k e s n. rw (obeys h b t space k e) (told_spares (gathered_of h.ear b t).ten h t s n);
-      counts = λ h b t space k e s. rw (obeys h b t space k e) (told_counts (gathered_of h.ear b t).ten h t s);
+          rw (obeys h b t space k e) (setting_keeps _ h t (write_sets (ten_in (gathered_of h.ear b t).ten) h r lt c p));
+      starts = λ h b t space k e s n. rw (obeys h b t space k e) (told_starts (ten_in (gathered_of h.ear b t).ten) h t s n);
+      spares = λ h b t space k e s n. rw (obeys h b t space k e) (told_spares (ten_in (gathered_of h.ear b t).ten) h t s n);
+      counts = λ h b t space k e s. rw (obeys h b t space k e) (told_counts (ten_in (gathered_of h.ear b t).ten) h t s);
       refuses = refuses;
-      complains = λ h b t space k e f v. rw (obeys h b t space k e) (told_complains (gathered_of h.ear b t).ten h t f v);
+      complains = λ h b t space k e f v. rw (obeys h b t space k e) (told_complains (ten_in (gathered_of h.ear b t).ten) h t f v);
       errs = errs;
       passes = passes;
       uncast = uncast;

@@ -1,5 +1,6 @@
 -- What a head keeps of the last damaged telegram is what looking back over the calls finds: by induction over the calls, each call seen at one head.
 -- Assumes nothing.
+use Rattle.std.specs.Prelude.{Ok, Err}
 use Prim.Native.Nat.{ℕ, ◌<◌, ◌≤◌}
 use mathlib.Core.Path.{◌≡◌, refl, sym, ◌∙◌, ap}
 use mathlib.Core.Bool.{Bool, true, false, cond, ◌&&◌, ◌||◌}
@@ -25,7 +26,6 @@ use Rattle.head.specs.Moves.{adopts_of, keyed_of}
 use Rattle.head.specs.Calls as head
 use Rattle.head.specs.Outcome as alone
 use Rattle.head.specs.declared.refusal.Refusal.TheVariants.{NoHead}
-use Rattle.head.specs.declared.calls.Hit.TheVariants.{Bits, Refused}
 use Rattle.line.specs.Calls.{last_hit_of}
 use Rattle.line.proofs.Theorems.{well_at}
 use Rattle.head.specs.Calls.{loaded_of}
@@ -137,18 +137,18 @@ kept_is : (cs : Calls) (k : ℕ) → k < count cs → kept (head_in cs k) ≡ la
 kept_is = of_heads (λ cs k. kept (head_in cs k) ≡ last_hit cs k) kept_old kept_new
 
 module _ (cs : Calls) (k : ℕ) where
-  shown : k < count cs → head.last_hit_of (head_in cs k) ≡ Bits (last_hit cs k)
+  shown : k < count cs → head.last_hit_of (head_in cs k) ≡ Ok (last_hit cs k)
   shown lt =
       let f = fits cs in
       let there : k < (run cs).count = rw f.counts lt in
       shows (head_in cs k) (well_at (run cs) f.fits k there) ∙ rw (kept_is cs k lt)
 
-  shown_on_lem : k < count cs → last_hit_of (run cs) k ≡ Bits (last_hit cs k)
+  shown_on_lem : k < count cs → last_hit_of (run cs) k ≡ Ok (last_hit cs k)
   shown_on_lem lt =
       let f = fits cs in
       line_shows (run cs) (record { fits = f.fits; places = f.places }) k (rw f.counts lt) ∙ shown lt
 
-  none_there : count cs ≤ k → last_hit_of (run cs) k ≡ Refused NoHead
+  none_there : count cs ≤ k → last_hit_of (run cs) k ≡ Err NoHead
   unfolding last_hit_of
   none_there le = let f = fits cs in rw (f.fits, f.counts, le-ltb k (count cs) le)
 

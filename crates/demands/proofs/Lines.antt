@@ -1,5 +1,6 @@
 -- What a line's calls are to its heads: a byte and a tick reach each, the other calls the one that they name.
 -- Assumes nothing.
+use Rattle.std.specs.Prelude.{Ok, Result, is_some}
 use Prim.Native.Nat.{ℕ, zero, suc, ◌+◌, ◌<◌, ◌≤◌}
 use native.Mathlib.Omega.{arith}
 use native.Mathlib.Nat.{le_of_suc-le-suc, not-suc-le-zero}
@@ -10,13 +11,11 @@ use mathlib.Core.List.{List, [], ◌∷◌}
 use borrow.Author.Tests.{le-ltb, lt-ltb}
 use lib.ListN.{length, get_or, length-append}
 use lib.Seq.{get_or-set_same, get_or-set_other}
+use Rattle.wire.specs.Telegram.{ten_in}
 use Rattle.state.specs.declared.parts.Head.{Head}
 use Rattle.state.specs.Wellformed.{wellformed_of}
 use Rattle.effects.specs.Restart.{fresh_of}
-use Rattle.head.specs.declared.calls.Heard.TheVariants as heard
-use Rattle.head.specs.declared.calls.Answer.TheVariants as answer
-use Rattle.head.specs.declared.calls.Hit.TheVariants.{Bits}
-use Rattle.head.specs.declared.calls.Serial.TheVariants.{Number}
+use Rattle.head.specs.declared.refusal.Refusal.{Refusal}
 use Rattle.head.specs.Hear.{step_of}
 use Rattle.head.specs.Calls as head
 use Rattle.head.specs.Calls.{factory_of, node_fits, made_of}
@@ -37,21 +36,21 @@ module _ (b t room : ℕ) (wide : 10 ≤ room) where
   abbrev says : Head → ℕ
   says h = number_in (head.byte_of h b t room).heard
 
-  heard_is : (h : Head) → wellformed_of h ≡ true → (head.byte_of h b t room).heard ≡ heard.Replies (cond (step_of h b t).replied 1 0)
+  heard_is : (h : Head) → wellformed_of h ≡ true → (head.byte_of h b t room).heard ≡ Ok (cond (is_some (step_of h b t).reply) 1 0)
   unfolding head.byte_of
   heard_is h w = rw (w, le-ltb room 10 wide)
 
-  replied : (h : Head) → wellformed_of h ≡ true → (head.byte_of h b t room).heard ≡ heard.Replies 1 → (step_of h b t).replied ≡ true
-  replied h w e = go (step_of h b t).replied (sym (heard_is h w) ∙ e)
+  replied : (h : Head) → wellformed_of h ≡ true → (head.byte_of h b t room).heard ≡ Ok 1 → is_some (step_of h b t).reply ≡ true
+  replied h w e = go (is_some (step_of h b t).reply) (sym (heard_is h w) ∙ e)
     where
-      go : (r : Bool) → heard.Replies (cond r 1 0) ≡ heard.Replies 1 → r ≡ true
+      go : (r : Bool) → ◌≡◌ {A = Result ℕ Refusal} (Ok (cond r 1 0)) (Ok 1) → r ≡ true
       go true e = refl
       go false e = let z : ◌≡◌ {A = ℕ} 0 1 = cc in absurd (omega arith)
 
-  quiet : (h : Head) → wellformed_of h ≡ true → (head.byte_of h b t room).heard ≡ heard.Replies 0 → (step_of h b t).replied ≡ false
-  quiet h w e = go (step_of h b t).replied (sym (heard_is h w) ∙ e)
+  quiet : (h : Head) → wellformed_of h ≡ true → (head.byte_of h b t room).heard ≡ Ok 0 → is_some (step_of h b t).reply ≡ false
+  quiet h w e = go (is_some (step_of h b t).reply) (sym (heard_is h w) ∙ e)
     where
-      go : (r : Bool) → heard.Replies (cond r 1 0) ≡ heard.Replies 0 → r ≡ false
+      go : (r : Bool) → ◌≡◌ {A = Result ℕ Refusal} (Ok (cond r 1 0)) (Ok 0) → r ≡ false
       go false e = refl
       go true e = let z : ◌≡◌ {A = ℕ} 1 0 = cc in absurd (omega arith)
 
@@ -63,9 +62,9 @@ module _ (b t room : ℕ) (wide : 10 ≤ room) where
   all_counted (suc n) (h ∷ hs) q e =
       let w = (and-eq-true_iff (wellformed_of h) _).0 e in
       let i = all_counted n hs (le_of_suc-le-suc q) w.1 in
-      length-append (said_by (step_of h b t)) (replies_of n hs b t) ∙ rw (i, heard_is h w.0) (go (step_of h b t).replied)
+      length-append (said_by (step_of h b t)) (replies_of n hs b t) ∙ rw (i, heard_is h w.0) (go (is_some (step_of h b t).reply))
     where
-      go : (r : Bool) → length (cond r ((step_of h b t).reply ∷ []) []) + sum n (λ k. says (get_or hs k (factory_of 0))) ≡ cond r 1 0 + sum n (λ k. says (get_or hs k (factory_of 0)))
+      go : (r : Bool) → length (cond r (ten_in (step_of h b t).reply ∷ []) []) + sum n (λ k. says (get_or hs k (factory_of 0))) ≡ cond r 1 0 + sum n (λ k. says (get_or hs k (factory_of 0)))
       go true = refl
       go false = refl
 
@@ -85,7 +84,7 @@ module _ (l : Line) (b t : ℕ) (space : List ℕ) (f : Fits l) (room : 10 ≤ l
   unfolding head.byte_of
   line_heads k p = rw (well_at l f.fits k p, le-ltb (length space) 10 room) (byte_alone l f.fits f.places k p b t (length space) room)
 
-  pub line_counts : (byte_of l b t (length space)).heard ≡ heard.Replies (all_replies product.on_head l b t space)
+  pub line_counts : (byte_of l b t (length space)).heard ≡ Ok (all_replies product.on_head l b t space)
   line_counts =
       byte_counts l f.fits b t space room ∙ rw (all_counted b t (length space) room l.count l.heads few (fits_heads l f.fits))
 
@@ -94,21 +93,21 @@ module _ (l : Line) (b t : ℕ) (space : List ℕ) (f : Fits l) (room : 10 ≤ l
       byte_lays l f.fits b t space room
       ∙ sym (not_one (replies_at l b t) space (rw (all_counted b t (length space) room l.count l.heads few (fits_heads l f.fits)) n))
 
-  pub line_silent : ((k : ℕ) → k < l.count → (heard_alone product.on_head l b t space k).heard ≡ heard.Replies 0)
-      → ((byte_of l b t (length space)).heard ≡ heard.Replies 0) × (byte_space_of l b t space ≡ space)
+  pub line_silent : ((k : ℕ) → k < l.count → (heard_alone product.on_head l b t space k).heard ≡ Ok 0)
+      → ((byte_of l b t (length space)).heard ≡ Ok 0) × (byte_space_of l b t space ≡ space)
   line_silent q =
       let z = sum_none l.count (λ k. number_in (heard_alone product.on_head l b t space k).heard) (λ k p. rw (q k p)) in
       (line_counts ∙ rw z, line_lays_not (λ e. omega arith))
 
   module _ (k : ℕ) (o : Only product.on_head l b t space k) where
-    only_said : replies_at l b t ≡ (step_of (head_at l k) b t).reply ∷ []
+    only_said : replies_at l b t ≡ ten_in (step_of (head_at l k) b t).reply ∷ []
     only_said =
         let p = o.there in
         one_replies b t (factory_of 0) k l.count l.heads p (omega (arith, few))
         (replied b t (length space) room (head_at l k) (well_at l f.fits k p) o.speaks)
         (λ j q n. quiet b t (length space) room (head_at l j) (well_at l f.fits j q) (o.others j q n))
 
-    pub line_one : ((byte_of l b t (length space)).heard ≡ heard.Replies 1) × (byte_space_of l b t space ≡ head.byte_space_of (head_at l k) b t space)
+    pub line_one : ((byte_of l b t (length space)).heard ≡ Ok 1) × (byte_space_of l b t space ≡ head.byte_space_of (head_at l k) b t space)
     unfolding head.byte_space_of
     line_one =
         let w = well_at l f.fits k o.there in
@@ -118,11 +117,11 @@ module _ (l : Line) (b t : ℕ) (space : List ℕ) (f : Fits l) (room : 10 ≤ l
         )
 
 -- ---- the other calls
-pub tells : (h : Head) → wellformed_of h ≡ true → head.serial_number_of h ≡ Number h.stored.serial
+pub tells : (h : Head) → wellformed_of h ≡ true → head.serial_number_of h ≡ Ok h.stored.serial
 unfolding head.serial_number_of
 tells h w = rw w
 
-pub shows : (h : Head) → wellformed_of h ≡ true → head.last_hit_of h ≡ Bits h.faults.hit
+pub shows : (h : Head) → wellformed_of h ≡ true → head.last_hit_of h ≡ Ok h.faults.hit
 unfolding head.last_hit_of
 shows h w = rw w
 
@@ -141,7 +140,7 @@ module _ (l : Line) (f : Fits l) where
   unfolding called head.tick_of
   line_ticks t k p = rw (well_at l f.fits k p) (tick_alone l f.fits f.places k p t)
 
-  pub line_ticked : (t : ℕ) → ((tick_of l t).answer ≡ answer.Done) × ((tick_of l t).line.count ≡ l.count)
+  pub line_ticked : (t : ℕ) → ((tick_of l t).answer ≡ (Ok tt)) × ((tick_of l t).line.count ≡ l.count)
   unfolding tick_of
   line_ticked t = (rw f.fits, rw f.fits)
 

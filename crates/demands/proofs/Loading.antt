@@ -1,6 +1,8 @@
 -- A sheet loaded, as the account has it: it is accepted where the head's own tests hold, and then it leaves in each place what the last row that touches
 -- it gives.
 -- Assumes nothing.
+use Rattle.std.specs.Prelude.{Some, None}
+use Rattle.std.specs.declared.option.Option as option
 use Prim.Native.Nat.{ℕ, zero, suc, ◌<◌}
 use mathlib.Core.Path.{◌≡◌, refl, sym, ◌∙◌}
 use mathlib.Core.Bool.{Bool, true, false, cond, ◌&&◌}
@@ -8,8 +10,6 @@ use mathlib.Core.List.{List}
 use mathlib.Core.Option.{Option, none, some}
 use native.Mathlib.Omega.{arith}
 use lib.ListN.{length, get_or}
-use Rattle.rows.specs.declared.table.Place.{Place}
-use Rattle.rows.specs.declared.table.Place.TheVariants.{At, Nowhere}
 use Rattle.rows.specs.Among.{among}
 use Rattle.rows.specs.Table.{place_of, is_at}
 use Rattle.rows.specs.Access.{stored}
@@ -59,13 +59,13 @@ module _ (h : Head) (full : length h.stored.values ≡ 39) (s : List ℕ) where
   unfolding store_of meant_of
   row_stored n r k lt = go (place_of (address_of s n)) refl k
     where
-      go : (p : Place) → place_of (address_of s n) ≡ p → is_at p ≡ true
+      go : (p : option.Option ℕ) → place_of (address_of s n) ≡ p → is_at p ≡ true
           → get_or (store_at p (stored_rows h.stored.values s n) (meant s n)) r 0
           ≡ look (gives (address_of s n) (meant s n) r) (get_or (stored_rows h.stored.values s n) r 0)
-      go (At i) e k =
+      go (Some i) e k =
           rw (value_gives (meant s n) (address_of s n) i r e lt)
           (set_gives (stored_rows h.stored.values s n) i (meant s n) r (omega (arith, stored_length h.stored.values s n, full)))
-      go Nowhere e k = absurd (let z : ◌≡◌ {A = ℕ} 0 1 = cc in omega arith)
+      go None e k = absurd (let z : ◌≡◌ {A = ℕ} 0 1 = cc in omega arith)
 
   rows_stored : (n r : ℕ) → ((i : ℕ) → i < n → known_of s i ≡ true) → r < 39
       → get_or (stored_rows h.stored.values s n) r 0 ≡ look (written s n r) (get_or h.stored.values r 0)

@@ -4,6 +4,8 @@ use Prim.Native.Nat.{ℕ}
 use mathlib.Core.Path.{◌≡◌, refl, ap}
 use mathlib.Core.Bool.{true, false, cond}
 use mathlib.Core.List.{List}
+use Rattle.std.specs.Prelude.{Option, is_some}
+use Rattle.wire.specs.Telegram.{ten_in}
 use Rattle.judge.specs.declared.deed.Deed.{Deed}
 use Rattle.judge.specs.declared.deed.Deed.TheVariants.{Nothing, Store, Reset, Restart, Calibrate, Forget, Unlock, Freeze, Aim1, Aim2, ClearStatic, Release, Offer, Withdraw}
 use Rattle.judge.specs.declared.judged.Judged.{Judged}
@@ -16,7 +18,6 @@ use Rattle.state.specs.With.{with_stored, with_targets, with_offer}
 use Rattle.effects.specs.Stored.{locked_of, restarted_stored, stored_by}
 use Rattle.effects.specs.Aimed.{turned_of, targets_by}
 use Rattle.effects.specs.Restart.{restarted_of}
-use Rattle.reply.specs.declared.Said.{Said}
 use Rattle.head.specs.Hear.{standing_of, restarts_of, affected_of, told_of, tell_of, step_of}
 use Rattle.head.proofs.Apart.{reply_apart}
 use Rattle.demands.specs.Run.{product}
@@ -71,7 +72,7 @@ module _ (h : Head) (n : ℕ) where
   tells ten t =
       let j = judged_of ten (standing_of h) in
       let r = reply_apart h h.ear h.faults.hit n j (told_of j other t) (told_of j h t) (told_word j t) in
-      (ap (λ (s : Said). s.replied) r, ap (λ (s : Said). s.reply) r, told_offered j t)
+      (ap (λ (s : Option (List ℕ)). is_some s) r, ap (λ (s : Option (List ℕ)). ten_in s) r, told_offered j t)
 
   steps : (b t : ℕ) → Steps AlikeOffered (step_of other b t) (step_of h b t)
   steps = apart.steps AlikeOffered other h refl (λ e. refl) tells

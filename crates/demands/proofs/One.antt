@@ -2,6 +2,7 @@
 -- What a head has gathered is the end of all that the line has heard, and shorter than ten bytes: heads that complete a telegram at the same
 -- byte complete the same one, and a head whose number in force is not its node byte neither answers nor stores.
 -- Assumes nothing.
+use Rattle.std.specs.Prelude.{Ok, Err, Result, is_some}
 use Prim.Native.Nat.{ℕ, zero, suc, ◌<◌, ◌≤◌}
 use mathlib.Core.Path.{◌≡◌, refl, sym, ◌∙◌, ap}
 use mathlib.Core.Bool.{Bool, true, false, cond, ◌||◌, true≢false}
@@ -14,7 +15,7 @@ use lib.ListN.{length, get_or, length-append}
 use lib.Seq.{drop-append_seam}
 use Rattle.wire.specs.declared.fault.Fault.{Fault}
 use Rattle.wire.specs.Check.{hit_of}
-use Rattle.wire.specs.Telegram.{fields_of}
+use Rattle.wire.specs.Telegram.{fields_of, ten_in}
 use Rattle.rows.proofs.Groups.{less_or_not}
 use Rattle.judge.specs.declared.verdict.Verdict.{Verdict}
 use Rattle.judge.specs.declared.verdict.Verdict.TheVariants.{Obeyed, Silent, Refused}
@@ -26,8 +27,6 @@ use Rattle.judge.proofs.Laws.{refused_mine, casts_is, obeyed_mine, obeyed_sound}
 use Rattle.state.specs.declared.parts.Head.{Head}
 use Rattle.state.specs.declared.parts.Stored.{Stored}
 use Rattle.effects.specs.Stored.{stored_by}
-use Rattle.head.specs.declared.calls.Heard.{Heard}
-use Rattle.head.specs.declared.calls.Heard.TheVariants as heard
 use Rattle.head.specs.declared.refusal.Refusal.TheVariants.{Space}
 use Rattle.head.specs.Hear.{standing_of, restarts_of, told_of, tell_of, step_of}
 use Rattle.head.specs.Calls.{factory_of}
@@ -42,6 +41,7 @@ use Rattle.demands.specs.Run.{after, built, runs, run, head_in}
 use Rattle.demands.specs.Demand3.{Differ, NoBroadcast, Unchanged}
 use Rattle.demands.proofs.Ear.{Gathered, ear_short, ear_whole, ear_all}
 use Rattle.demands.proofs.Sim.{fits, sim}
+use Rattle.head.specs.declared.refusal.Refusal.{Refusal}
 
 -- ---- all that the line has heard, and what a head has gathered of it: its end
 heard_by : Call → List ℕ → List ℕ
@@ -194,7 +194,7 @@ module _ (h : Head) (ten : List ℕ) (t : ℕ) (other : eqb (fields_of ten).node
       go (Refused f) e = absurd (true≢false (sym (refused_mine _ (fields_of ten) (standing_of h) e) ∙ other))
 
   -- is not answered
-  pub told_mute : (tell_of h ten t).replied ≡ false
+  pub told_mute : is_some (tell_of h ten t).reply ≡ false
   unfolding tell_of judged_of
   told_mute =
       ⊎_elim (λ e. silent_none (judged_of ten (standing_of h)) h _ e)
@@ -211,7 +211,7 @@ module _ (h : Head) (ten : List ℕ) (t : ℕ) (other : eqb (fields_of ten).node
 
 -- ---- a head that is not spoken to by a byte
 module _ (h : Head) (g : Ear) (b t : ℕ) (e : Gathered h g) where
-  step_mute : Quiet (gather g b t) h.stored.number → (step_of h b t).replied ≡ false
+  step_mute : Quiet (gather g b t) h.stored.number → is_some (step_of h b t).reply ≡ false
   unfolding Quiet
   step_mute q =
       ⊎_elim (λ few. (ear_short h g b t e few).no_reply_lem)
@@ -231,31 +231,31 @@ module _ (cs : Calls) (b t k : ℕ) (lt : k < count cs) (q : Quiet (gathered_wit
   quiet_here : Quiet (gathered_with cs b t k) (head_in cs k).stored.number
   quiet_here = rw (sim cs k lt).force_is q
 
-  at_mute : (step_of (head_in cs k) b t).replied ≡ false
+  at_mute : is_some (step_of (head_in cs k) b t).reply ≡ false
   at_mute = step_mute (head_in cs k) (entry cs k).ear b t (sim cs k lt).ear_is quiet_here
 
   at_still : (10 ≤ length (gathered_with cs b t k) → hit_of (gathered_with cs b t k) ≡ 0 → (fields_of (gathered_with cs b t k)).command ≢ 2) → (step_of (head_in cs k) b t).head.stored ≡ (head_in cs k).stored
   at_still ne = step_still (head_in cs k) (entry cs k).ear b t (sim cs k lt).ear_is quiet_here ne
 
 module _ (d : Head) (b t : ℕ) where
-  no_replies : (n : ℕ) (hs : List Head) → ((j : ℕ) → j < n → (step_of (get_or hs j d) b t).replied ≡ false) → replies_of n hs b t ≡ []
+  no_replies : (n : ℕ) (hs : List Head) → ((j : ℕ) → j < n → is_some (step_of (get_or hs j d) b t).reply ≡ false) → replies_of n hs b t ≡ []
   no_replies zero hs f = refl
   no_replies (suc n) [] f = refl
   no_replies (suc n) (h ∷ hs) f = rw (f 0 (omega arith)) (no_replies n hs (λ j lt. f (suc j) (omega arith)))
 
   replies_one : (n : ℕ) (hs : List Head)
-      → ((i j : ℕ) → i < n → j < n → i ≢ j → ((step_of (get_or hs i d) b t).replied ≡ false) ⊎ ((step_of (get_or hs j d) b t).replied ≡ false))
+      → ((i j : ℕ) → i < n → j < n → i ≢ j → (is_some (step_of (get_or hs i d) b t).reply ≡ false) ⊎ (is_some (step_of (get_or hs j d) b t).reply ≡ false))
       → length (replies_of n hs b t) ≤ 1
   replies_one zero hs f = omega arith
   replies_one (suc n) [] f = omega arith
   replies_one (suc n) (h ∷ hs) f =
-      go (step_of h b t).replied refl (replies_one n hs (λ i j il jl ne. f (suc i) (suc j) (omega arith) (omega arith) (omega arith)))
+      go (is_some (step_of h b t).reply) refl (replies_one n hs (λ i j il jl ne. f (suc i) (suc j) (omega arith) (omega arith) (omega arith)))
     where
-      rest_mute : (step_of h b t).replied ≡ true → (j : ℕ) → j < n → (step_of (get_or hs j d) b t).replied ≡ false
+      rest_mute : is_some (step_of h b t).reply ≡ true → (j : ℕ) → j < n → is_some (step_of (get_or hs j d) b t).reply ≡ false
       rest_mute e j lt = ⊎_elim (λ p. absurd (true≢false (sym e ∙ p))) (λ p. p) (f 0 (suc j) (omega arith) (omega arith) (omega arith))
 
-      go : (x : Bool) → (step_of h b t).replied ≡ x → length (replies_of n hs b t) ≤ 1
-          → length (cond x ((step_of h b t).reply ∷ []) [] ++ replies_of n hs b t) ≤ 1
+      go : (x : Bool) → is_some (step_of h b t).reply ≡ x → length (replies_of n hs b t) ≤ 1
+          → length (cond x (ten_in (step_of h b t).reply ∷ []) [] ++ replies_of n hs b t) ≤ 1
       go false e ih = ih
       go true e ih = rw (no_replies n hs (rest_mute e)) (omega arith)
 
@@ -265,23 +265,23 @@ replies_few cs b t d =
     (λ i j il jl ne. pick i j (rw (fits cs).counts at il) (rw (fits cs).counts at jl) ne)
   where
     pick : (i j : ℕ) → i < count cs → j < count cs → i ≢ j
-        → ((step_of (head_in cs i) b t).replied ≡ false) ⊎ ((step_of (head_in cs j) b t).replied ≡ false)
+        → (is_some (step_of (head_in cs i) b t).reply ≡ false) ⊎ (is_some (step_of (head_in cs j) b t).reply ≡ false)
     pick i j il jl ne =
         ⊎_elim (λ q. inl (at_mute cs b t i il q)) (λ q. inr (at_mute cs b t j jl q)) (one_quiet cs b t i j (d.differ i j il jl ne))
 
 -- what the byte call of a line that fits returns, by the space
-abbrev heard_if : Bool → ℕ → Heard
-heard_if x n = cond x (heard.Refused Space) (heard.Replies n)
+abbrev heard_if : Bool → ℕ → Result ℕ Refusal
+heard_if x n = cond x (Err Space) (Ok n)
 
 byte_heard : (l : Line) (b t s : ℕ) (x : Bool) → fits_of l ≡ true → ltb s 10 ≡ x → (byte_of l b t s).heard ≡ heard_if x (length (replies_at l b t))
 unfolding byte_of
 byte_heard l b t s true f e = rw (f, e)
 byte_heard l b t s false f e = rw (f, e)
 
-pub one_reply : (cs : Calls) (b t s n : ℕ) → Differ cs → (byte_of (run cs) b t s).heard ≡ heard.Replies n → n ≤ 1
+pub one_reply : (cs : Calls) (b t s n : ℕ) → Differ cs → (byte_of (run cs) b t s).heard ≡ Ok n → n ≤ 1
 one_reply cs b t s n d e = go (ltb s 10) (sym (byte_heard (run cs) b t s (ltb s 10) (fits cs).fits refl) ∙ e)
   where
-    go : (x : Bool) → heard_if x (length (replies_at (run cs) b t)) ≡ heard.Replies n → n ≤ 1
+    go : (x : Bool) → heard_if x (length (replies_at (run cs) b t)) ≡ Ok n → n ≤ 1
     go true q = let z : ◌≡◌ {A = ℕ} 0 1 = cc in absurd (omega arith)
     go false q = let z : length (replies_at (run cs) b t) ≡ n = cc in omega (arith, replies_few cs b t d)
 

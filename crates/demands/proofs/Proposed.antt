@@ -2,6 +2,7 @@
 -- That there is room for a further row, or a free number at all, is counted: the rows' numbers are as many as the rows where all differ, and fewer
 -- where two do not.
 -- Assumes nothing.
+use Rattle.std.specs.Prelude.{Some, None, Option}
 use Prim.Native.Nat.{ℕ, suc, ◌≤◌, ◌<◌}
 use mathlib.Core.Path.{◌≡◌, refl, sym, ap, ◌∙◌}
 use mathlib.Core.Bool.{Bool, true, false, true≢false}
@@ -26,8 +27,6 @@ use Rattle.order_form.proofs.Kept.{length_snoc}
 use Rattle.order_form.proofs.Claims.{before_at, itself, more}
 use Rattle.order_form.proofs.Demands as form-proofs
 use Rattle.order_form.proofs.Only.{apart_before, same_earlier, searched}
-use Rattle.free_number.specs.declared.map.Free.{Free}
-use Rattle.free_number.specs.declared.map.Free.TheVariants as free
 use Rattle.free_number.specs.Lowest.{span, how_many, count_of}
 use Rattle.free_number.specs.Rows.{start, adding, rows_after}
 use Rattle.free_number.specs.Demand as keeper
@@ -69,22 +68,22 @@ module _ (k : keeper.Keeper) (kept : keeper.Demanded k) (rows : List Row) where
       ∙ count_ext (among (rows_after (adding start (numbers rows)))) (among (numbers rows)) (after_list (numbers rows))
 
   -- a proposed number is 1..127, and no row's
-  is_free : (n : ℕ) → proposed k rows ≡ free.Number n → keeper.IsNode n × (among (numbers rows) n ≡ false)
+  is_free : (n : ℕ) → proposed k rows ≡ Some n → keeper.IsNode n × (among (numbers rows) n ≡ false)
   is_free n e = let h = lowest in (h.0, sym (after_list (numbers rows) n h.0) ∙ h.1)
     where
-      lowest : keeper.IsLowest (among (rows_after (adding start (numbers rows)))) (free.Number n)
+      lowest : keeper.IsLowest (among (rows_after (adding start (numbers rows)))) (Some n)
       lowest = rw e at reads.lowest
 
-  no_row_lem : (n : ℕ) → proposed k rows ≡ free.Number n → (i : ℕ) → i < length rows → form.at Number rows i ≢ n
+  no_row_lem : (n : ℕ) → proposed k rows ≡ Some n → (i : ℕ) → i < length rows → form.at Number rows i ≢ n
   no_row_lem n e i h z =
       true≢false (sym (among_at (numbers rows) i (rw (long rows) h)) ∙ ap (among (numbers rows)) (number_at rows i ∙ z) ∙ (is_free n e).1)
 
   -- so the numbers are fewer than 127
-  room : (n : ℕ) → proposed k rows ≡ free.Number n → suc (count_of (among (numbers rows))) ≤ 127
+  room : (n : ℕ) → proposed k rows ≡ Some n → suc (count_of (among (numbers rows))) ≤ 127
   room n e = rw (once n (numbers rows) (is_free n e).0 (is_free n e).1) at (count_most (among (n ∷ numbers rows)))
 
   -- and all are used where none is proposed
-  all_used : proposed k rows ≡ free.None → count_of (among (numbers rows)) ≡ 127
+  all_used : proposed k rows ≡ None → count_of (among (numbers rows)) ≡ 127
   all_used e =
       count_ext (among (numbers rows)) (λ i. true) (λ i h. sym (after_list (numbers rows) i h) ∙ reads.full.0 e i h) ∙ every
 
@@ -100,7 +99,7 @@ module _ (k : keeper.Keeper) (check : List Row → Answer) (kept : keeper.Demand
   heads : k.count (map_of k rows) ≡ length rows
   heads = counted k kept rows ∙ count_apart rows all apart
 
-  module _ (n serial : ℕ) (e : proposed k rows ≡ free.Number n) where
+  module _ (n serial : ℕ) (e : proposed k rows ≡ Some n) where
     abbrev row : Row
     row = record { serial = serial; node = n }
 
@@ -171,12 +170,12 @@ module _ (k : keeper.Keeper) (check : List Row → Answer) (kept : keeper.Demand
             absurd (no_number y (rw q at c.1))
         go (Refused why) c = absurd c
 
-  full : proposed k rows ≡ free.None ↔ length rows ≡ 127
+  full : proposed k rows ≡ None ↔ length rows ≡ 127
   full = (λ e. sym (count_apart rows all apart) ∙ all_used k kept rows e, λ e. go (proposed k rows) refl e)
     where
-      go : (f : Free) → proposed k rows ≡ f → length rows ≡ 127 → proposed k rows ≡ free.None
-      go (free.Number n) z e = absurd (omega (arith, room k kept rows n z, count_apart rows all apart, e))
-      go free.None z e = z
+      go : (f : Option ℕ) → proposed k rows ≡ f → length rows ≡ 127 → proposed k rows ≡ None
+      go (Some n) z e = absurd (omega (arith, room k kept rows n z, count_apart rows all apart, e))
+      go None z e = z
 
 -- ---- the number that is proposed in the place of one that a row repeats
 module _ (k : keeper.Keeper) (check : List Row → Answer) (kept : keeper.Demanded k) (does : form.Demanded check)
@@ -191,7 +190,7 @@ module _ (k : keeper.Keeper) (check : List Row → Answer) (kept : keeper.Demand
   claim = rw said at (does.answered rows few_rows_lem all_nodes)
 
   -- two rows share a number, so that the numbers are fewer than the rows
-  has_one : (n : ℕ) × (proposed k rows ≡ free.Number n)
+  has_one : (n : ℕ) × (proposed k rows ≡ Some n)
   has_one = go (proposed k rows) refl
     where
       fewer : count_of (among (numbers rows)) < 127
@@ -199,11 +198,11 @@ module _ (k : keeper.Keeper) (check : List Row → Answer) (kept : keeper.Demand
           let same : get_or (numbers rows) j 0 ≡ get_or (numbers rows) i 0 = number_at rows j ∙ claim.1.same ∙ sym (number_at rows i) in
           omega (arith, few_rows_lem, long rows, count_twice (numbers rows) j i claim.1.earlier (rw (long rows) claim.0.inside) same)
 
-      go : (f : Free) → proposed k rows ≡ f → (n : ℕ) × (proposed k rows ≡ free.Number n)
-      go (free.Number n) e = (n, e)
-      go free.None e = absurd (omega (arith, fewer, all_used k kept rows e))
+      go : (f : Option ℕ) → proposed k rows ≡ f → (n : ℕ) × (proposed k rows ≡ Some n)
+      go (Some n) e = (n, e)
+      go None e = absurd (omega (arith, fewer, all_used k kept rows e))
 
-  module _ (n : ℕ) (e : proposed k rows ≡ free.Number n) where
+  module _ (n : ℕ) (e : proposed k rows ≡ Some n) where
     abbrev mended : List Row
     mended = renumbered rows i n
 

@@ -1,5 +1,6 @@
 -- A rack is its dropping and its byte calls: the definition of the crate rack is that of Racks, said again, and its laws are what is asked.
 -- Assumes nothing.
+use Rattle.std.specs.Prelude.{Ok, Err, Result}
 use Prim.Native.Nat.{ℕ, zero, suc, ◌+◌, ◌*◌, ◌%◌, ◌<◌, ◌≤◌}
 use mathlib.Core.Path.{◌≡◌, refl, sym, ap, subst, ◌∙◌}
 use mathlib.Core.Bool.{true}
@@ -7,13 +8,10 @@ use mathlib.Core.List.{List, [], ◌∷◌, ◌++◌}
 use native.Mathlib.Omega.{arith}
 use lib.ListN.{length, replicate}
 use Rattle.effects.specs.Restart.{empty_ear}
-use Rattle.head.specs.declared.calls.Heard.{Heard}
-use Rattle.head.specs.declared.calls.Heard.TheVariants as heard
 use Rattle.line.specs.declared.calls.Line.{Line}
 use Rattle.line.specs.Calls.{fits_of, replies_at, head_at, byte_of, byte_space_of}
 use Rattle.line.proofs.Theorems.{byte_counts, byte_keeps}
 use Rattle.rack.specs.declared.Racked.{Racked}
-use Rattle.rack.specs.declared.Answer.TheVariants.{Laid}
 use Rattle.rack.specs.Rack.{dropped_of, Fed, drawing, fed_of, racked, rack_of, rack_space_of}
 use Rattle.rack.specs.Rack as definition
 use Rattle.rack.proofs.Filled as filling
@@ -22,6 +20,7 @@ use Rattle.rack.proofs.Theorems.{none_line, dropped_at, rack_keeps, rack_past, r
 use Rattle.demands.specs.Run.{product}
 use Rattle.demands.specs.Lines.{Fits}
 use Rattle.demands.specs.Racks.{Taken, fed, drawn, lone, replies, collided, collisions, AllHeard, Tens, joined, laid_at, Emptied, emptied, Racks}
+use Rattle.head.specs.declared.refusal.Refusal.{Refusal}
 
 -- ---- what is fed, said both ways
 record Same (f : Fed) (l : Line) (bs : List ℕ) (t : ℕ) : Type 0 where
@@ -29,16 +28,16 @@ record Same (f : Fed) (l : Line) (bs : List ℕ) (t : ℕ) : Type 0 where
   laid : f.laid ≡ replies (drawn product.on_line_of l bs t)
   collisions : f.collisions ≡ collisions (drawn product.on_line_of l bs t)
 
-record Parts (h : Heard) (ten : List ℕ) (f : Fed) : Type 0 where
+record Parts (h : Result ℕ Refusal) (ten : List ℕ) (f : Fed) : Type 0 where
   line : (drawing h ten f).line ≡ f.line
   laid : (drawing h ten f).laid ≡ lone h ten ++ f.laid
   collisions : (drawing h ten f).collisions ≡ collided h + f.collisions
 
-parts : (h : Heard) (ten : List ℕ) (f : Fed) → Parts h ten f
-parts (heard.Replies zero) ten f = record { line = refl; laid = refl; collisions = omega arith }
-parts (heard.Replies (suc zero)) ten f = record { line = refl; laid = refl; collisions = omega arith }
-parts (heard.Replies (suc (suc n))) ten f = record { line = refl; laid = refl; collisions = omega arith }
-parts (heard.Refused why) ten f = record { line = refl; laid = refl; collisions = omega arith }
+parts : (h : Result ℕ Refusal) (ten : List ℕ) (f : Fed) → Parts h ten f
+parts (Ok zero) ten f = record { line = refl; laid = refl; collisions = omega arith }
+parts (Ok (suc zero)) ten f = record { line = refl; laid = refl; collisions = omega arith }
+parts (Ok (suc (suc n))) ten f = record { line = refl; laid = refl; collisions = omega arith }
+parts (Err why) ten f = record { line = refl; laid = refl; collisions = omega arith }
 
 same : (bs : List ℕ) (l : Line) (t : ℕ) → Same (fed_of l bs t) l bs t
 unfolding fed_of
@@ -87,7 +86,7 @@ module _ (l : Line) (bs : List ℕ) (t n p : ℕ) (k : Taken l bs n p) where
   feeds = ap (λ (r : Racked). r.line) done ∙ (same bs (dropped_of l t) t).line ∙ rw (begins l t k.line)
 
   answers : let ds = drawn product.on_line_of (emptied product.on_line_of l t) bs t in
-      (rack_of l bs t n p).answer ≡ Laid (record { replies = length (replies ds); collisions = collisions ds })
+      (rack_of l bs t n p).answer ≡ Ok (record { replies = length (replies ds); collisions = collisions ds })
   answers =
       ap (λ (r : Racked). r.answer) done
       ∙ rw (begins l t k.line, (same bs (dropped_of l t) t).laid, (same bs (dropped_of l t) t).collisions)

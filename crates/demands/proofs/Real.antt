@@ -12,7 +12,7 @@ use Rattle.master.proofs.Laws.{refusal_ten}
 use Rattle.engine.specs.Answer as engine
 use Rattle.engine.proofs.Twenty.{refusal_twenty}
 use Rattle.demands.specs.Run.{product, ask_of, after}
-use Rattle.demands.specs.Real.{Real, Plain, RealSheet, RealForm, RealMap, RealMaster, RealEngine, RealSerial, RealRack}
+use Rattle.demands.specs.Real.{Real, Plain, RealSheet, RealForm, RealMap, RealMaster, RealEngine, RealSerial, RealRack, RealRound}
 use Rattle.demands.proofs.Computing.{computing}
 
 factory_made : (serial : ℕ) → factory_of serial ≡ (made_of 31 serial).head
@@ -120,6 +120,9 @@ real_sheet =
       next_asks = λ 𝓛 mem run κs a g. refl;
       next = λ 𝓛 mem run κs a g y e. refl;
     }
+
+pub real_round : RealRound
+real_round = record { asks_nothing = λ 𝓛 mem run κs a g. refl; told = λ 𝓛 mem run κs a g y e. refl }
 
 pub real_form : RealForm answer_of
 real_form =

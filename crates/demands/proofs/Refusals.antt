@@ -1,5 +1,6 @@
 -- Demand 1, proved: the refusals are those of the table, in its order, and a refused call changes nothing.
 -- Assumes nothing.
+use Rattle.std.specs.Prelude.{Ok, Err, Result, ⊤}
 use Prim.Native.Nat.{ℕ, ◌-◌, ◌%◌}
 use native.Mathlib.Omega.{arith}
 use mathlib.Core.Path.{◌≡◌, refl, ◌∙◌, ap}
@@ -19,11 +20,7 @@ use Rattle.effects.specs.Stored.{restarted_stored}
 use Rattle.effects.specs.Restart.{delivered_of, restarted_of, fresh_of}
 use Rattle.head.specs.declared.refusal.Refusal.{Refusal}
 use Rattle.head.specs.declared.refusal.Refusal.TheVariants.{Node, Malformed}
-use Rattle.head.specs.declared.calls.Answer.{Answer}
-use Rattle.head.specs.declared.calls.Answer.TheVariants as answer
 use Rattle.head.specs.declared.calls.Called as head-Called
-use Rattle.head.specs.declared.calls.Heard.{Heard}
-use Rattle.head.specs.declared.calls.Heard.TheVariants as heard
 use Rattle.head.specs.declared.hear.Stepped.{Stepped}
 use Rattle.head.specs.Hear.{step_of}
 use Rattle.head.specs.Moves.{keyed_of}
@@ -71,13 +68,13 @@ abbrev numbered : Option Refusal → Option ℕ
 numbered none = none
 numbered (some why) = some (refusal_of why)
 
-answer_number : (a : Answer) → of_answer a ≡ numbered (alone.of_answer a)
-answer_number answer.Done = refl
-answer_number (answer.Refused why) = refl
+answer_number : (a : Result ⊤ Refusal) → of_answer a ≡ numbered (alone.of_answer a)
+answer_number (Ok tt) = refl
+answer_number (Err why) = refl
 
-heard_number : (x : Heard) → of_heard x ≡ numbered (alone.of_heard x)
-heard_number (heard.Replies n) = refl
-heard_number (heard.Refused why) = refl
+heard_number : (x : Result ℕ Refusal) → of_heard x ≡ numbered (alone.of_heard x)
+heard_number (Ok n) = refl
+heard_number (Err why) = refl
 
 failed_first : (ts : Tests) → numbered (failed ts) ≡ first (map as_row ts)
 failed_first [] = refl
@@ -122,7 +119,7 @@ module _ (h : Head) where
   head_save : (n : ℕ) → of_answer (head.save_of h n) ≡ first (head_rows h (save_rows n))
   unfolding head.save_of
   head_save n =
-      answer_number (head.save_of h n) ∙ ap numbered (says alone.of_answer answer.Refused answer.Done (head.save_tests h n) (λ why. refl) refl)
+      answer_number (head.save_of h n) ∙ ap numbered (says alone.of_answer Err (Ok tt) (head.save_tests h n) (λ why. refl) refl)
       ∙ failed_first (head.save_tests h n) ∙ rw (twice (ltb n 274))
 
 module _ (l : Line) where
@@ -234,13 +231,13 @@ made_factory node serial n true e d = absurd (let k : none ≡ some n = rw e at 
 made_factory node serial n false e d = (rw e, rw (node_same 31), fresh_numbered 31 serial)
 
 -- ---- a refused call changes nothing
-answered : (a : Answer) {n : ℕ} → of_answer a ≡ some n → (why : Refusal) × (a ≡ answer.Refused why)
-answered answer.Done e = absurd (let z : ◌≡◌ {A = ℕ} 0 1 = cc in omega arith)
-answered (answer.Refused why) e = (why, refl)
+answered : (a : Result ⊤ Refusal) {n : ℕ} → of_answer a ≡ some n → (why : Refusal) × (a ≡ Err why)
+answered (Ok tt) e = absurd (let z : ◌≡◌ {A = ℕ} 0 1 = cc in omega arith)
+answered (Err why) e = (why, refl)
 
-heard_as : (x : Heard) {n : ℕ} → of_heard x ≡ some n → (why : Refusal) × (x ≡ heard.Refused why)
-heard_as (heard.Replies k) e = absurd (let z : ◌≡◌ {A = ℕ} 0 1 = cc in omega arith)
-heard_as (heard.Refused why) e = (why, refl)
+heard_as : (x : Result ℕ Refusal) {n : ℕ} → of_heard x ≡ some n → (why : Refusal) × (x ≡ Err why)
+heard_as (Ok k) e = absurd (let z : ◌≡◌ {A = ℕ} 0 1 = cc in omega arith)
+heard_as (Err why) e = (why, refl)
 
 byte_same : (l : Line) (b t s : ℕ) (f r : Bool) (n : ℕ) → fits_of l ≡ f → ltb s 10 ≡ r
     → refused_as product.on_line_of (byte b t s) l ≡ some n → (byte_of l b t s).line ≡ l
@@ -294,8 +291,8 @@ head_same (alone.keys s space) h n e =
 head_same (alone.asked a) h n e = let w = answered (alone.called a h).answer e in (called_same a h w.0 w.1, refl)
 
 -- a sheet that is not written changes no byte of the space
-spared : (ts : Tests) (a : Answer) (x y : List ℕ) {n : ℕ} → (of_answer a ≡ some n → x ≡ y)
-    → of_answer (head.guarded answer.Refused ts a) ≡ some n → head.guarded (λ why. y) ts x ≡ y
+spared : (ts : Tests) (a : Result ⊤ Refusal) (x y : List ℕ) {n : ℕ} → (of_answer a ≡ some n → x ≡ y)
+    → of_answer (head.guarded Err ts a) ≡ some n → head.guarded (λ why. y) ts x ≡ y
 spared [] a x y s e = s e
 spared ((true, why) ∷ ts) a x y s e = spared ts a x y s e
 spared ((false, why) ∷ ts) a x y s e = refl
@@ -303,7 +300,7 @@ spared ((false, why) ∷ ts) a x y s e = refl
 saved_same : (h : Head) (space : List ℕ) (n : ℕ) → of_answer (head.save_of h (length space)) ≡ some n → head.save_space_of h space ≡ space
 unfolding head.save_of head.save_space_of
 saved_same h space n e =
-    spared (head.save_tests h (length space)) answer.Done _ space (λ q. absurd (let z : ◌≡◌ {A = ℕ} 0 1 = cc in omega arith)) e
+    spared (head.save_tests h (length space)) (Ok tt) _ space (λ q. absurd (let z : ◌≡◌ {A = ℕ} 0 1 = cc in omega arith)) e
 
 save_same : (l : Line) (j : ℕ) (space : List ℕ) (n : ℕ) → of_answer (save_of l j (length space)) ≡ some n → save_space_of l j space ≡ space
 unfolding save_of save_space_of

@@ -1,5 +1,6 @@
 -- Incremental measurement is retired: by the tests of the calls, by what bringing over leaves of a head, and by the account.
 -- Assumes nothing.
+use Rattle.std.specs.Prelude.{Ok}
 use Prim.Native.Nat.{ℕ, zero, suc, ◌+◌, ◌*◌, ◌<◌, ◌≤◌}
 use mathlib.Core.Path.{◌≡◌, refl, sym, ap, ◌∙◌}
 use mathlib.Core.Bool.{Bool, true, false, true≢false, cond, and-false}
@@ -16,7 +17,6 @@ use Rattle.state.specs.Wellformed.{wellformed_of}
 use Rattle.state.specs.Older.{is_older, older_fits, passes_of, brought_of}
 use Rattle.state.proofs.Brought as over
 use Rattle.head.specs.declared.refusal.Refusal.TheVariants.{Malformed}
-use Rattle.head.specs.declared.calls.Answer.TheVariants.{Done}
 use Rattle.head.specs.declared.calls.Called.{Called}
 use Rattle.head.specs.declared.calls.Fed.{Fed}
 use Rattle.head.specs.Hear.{step_of}
@@ -71,7 +71,7 @@ module _ (l : Line) (places : length l.heads ≡ 32) (a : LineFormed older_fits 
     to_one : ToOne l i after (bringing (head_at l i)).head × ((ask_of bring l i).answer ≡ (bringing (head_at l i)).answer)
     to_one = line_asks l i bring (record { takes = twenty.older_line_passes l places a; places = places }) p
 
-    done : (ask_of bring l i).answer ≡ Done
+    done : (ask_of bring l i).answer ≡ (Ok tt)
     done = to_one.1 ∙ rw (bring_is (head_at l i) allowed_at)
 
     over_at : wellformed_of (head_at after i) ≡ true
@@ -202,7 +202,7 @@ module _ (cs : Calls) (k : ℕ) (lt : k < count cs) where
   zero_35 = sym ((sim.sim cs k lt).vals_are 29 (omega arith)) ∙ over.zero_35 (head_in cs k) grown_well
 
 -- ---- a written sheet: the four bytes at 35h
-saves : (h : Head) (space : List ℕ) (i : ℕ) → length h.stored.values ≡ 39 → head.save_of h (length space) ≡ Done → i < 4
+saves : (h : Head) (space : List ℕ) (i : ℕ) → length h.stored.values ≡ 39 → head.save_of h (length space) ≡ (Ok tt) → i < 4
     → get_or (head.save_space_of h space) (118 + 4 * 29 + i) 0 ≡ 0
 saves h space i full e lt = go i lt
   where

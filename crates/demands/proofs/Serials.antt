@@ -1,5 +1,6 @@
 -- Serial numbers, by the laws of the crates head and line: what each call does to the serial numbers of a line, and that the account keeps them.
 -- Assumes nothing.
+use Rattle.std.specs.Prelude.{Ok, Result}
 use Prim.Native.Nat.{ℕ, ◌<◌, ◌≤◌}
 use mathlib.Core.Path.{◌≡◌, refl, sym, ap, ◌∙◌}
 use mathlib.Core.Bool.{Bool, true, false, cond, not, ◌&&◌, true≢false}
@@ -13,8 +14,8 @@ use Rattle.rows.specs.Among.{among}
 use Rattle.judge.proofs.Offers.{flip}
 use Rattle.state.specs.declared.parts.Head.{Head}
 use Rattle.state.specs.Wellformed.{wellformed_of}
-use Rattle.head.specs.declared.calls.Serial.TheVariants as serial
 use Rattle.head.specs.Outcome as alone
+use Rattle.head.specs.declared.refusal.Refusal.{Refusal}
 use Rattle.head.proofs.Serials.{call_serial}
 use Rattle.line.specs.declared.calls.Line.{Line}
 use Rattle.line.specs.Calls.{serials_at, head_at}
@@ -73,8 +74,8 @@ module _ (cs : Calls) where
   there : (k : ℕ) → k < count cs → k < (run cs).count
   there k p = rw (fits cs).counts p
 
-  told_alone : (k : ℕ) → k < count cs → serial.Number (serial_of (head_in cs k)) ≡ serial.Number (made_with cs k)
-  told_alone k p = ap (λ x. serial.Number x) (marked_as cs k p)
+  told_alone : (k : ℕ) → k < count cs → ◌≡◌ {A = Result ℕ Refusal} (Ok (serial_of (head_in cs k))) (Ok (made_with cs k))
+  told_alone k p = ap (λ x. Ok x) (marked_as cs k p)
 
   well : (k : ℕ) → k < count cs → wellformed_of (head_in cs k) ≡ true
   well k p = well_at (run cs) (fits cs).fits k (there k p)

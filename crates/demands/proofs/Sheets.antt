@@ -1,6 +1,7 @@
 -- Settings travel on a sheet: what loading does to a head and what is written from one, each by the tests that the call names; and a head is swapped by looking
 -- back over the calls.
 -- Assumes nothing.
+use Rattle.std.specs.Prelude.{Some, None, Option, Ok, Err, Result, ⊤}
 use Prim.Native.Nat.{ℕ, zero, suc, ◌+◌, ◌*◌, ◌-◌, ◌/◌, ◌%◌, ◌<◌, ◌≤◌}
 use mathlib.Core.Path.{◌≡◌, refl, sym, ◌∙◌, ap}
 use mathlib.Core.Bool.{Bool, true, false, cond, ◌&&◌, and-eq-true_iff, false≢true}
@@ -12,8 +13,6 @@ use lib.Dec.{leb, ltb, eqb}
 use lib.ListN.{length, take, drop, get_or, get_or-append, get_or-eq_default}
 use lib.Seq.{take_at, drop_at, length_front, length-take-le}
 use Rattle.rows.specs.declared.table.Row.{Row}
-use Rattle.rows.specs.declared.table.Place.{Place}
-use Rattle.rows.specs.declared.table.Place.TheVariants.{At, Nowhere}
 use Rattle.rows.specs.Among.{among}
 use Rattle.rows.specs.Table.{rows, row_of, address, place_of, is_at}
 use Rattle.rows.specs.Access.{stored}
@@ -27,7 +26,6 @@ use Rattle.state.specs.Wellformed.{wellformed_of}
 use Rattle.state.proofs.Laws.{told, stored_told}
 use Rattle.sheet.specs.declared.refusal.Refusal as sheet
 use Rattle.sheet.specs.declared.refusal.Refusal.TheVariants.{Malformed, NotStored, OutOfRow, Short}
-use Rattle.sheet.specs.declared.refusal.Answer.TheVariants as sheet-answer
 use Rattle.sheet.specs.Refusals.{refusal_of}
 use Rattle.sheet.specs.Format.{count_of, address_of, value_of, well_formed_of}
 use Rattle.sheet.specs.Sheet.{Sheet, four}
@@ -41,8 +39,6 @@ use Rattle.sheet.proofs.Bytes.{sheet_length, sheet_at}
 use Rattle.sheet.proofs.Loads.{stored_row, stored_other, stored_length, loaded_answer}
 use Rattle.sheet.proofs.Written.{sheet_formed, sheet_count, sheet_address, sheet_place, written_known, written_fitting, written_stored}
 use Rattle.head.specs.declared.refusal.Refusal.TheVariants.{Malformed as NoHead}
-use Rattle.head.specs.declared.calls.Answer.{Answer}
-use Rattle.head.specs.declared.calls.Answer.TheVariants as answer
 use Rattle.head.specs.declared.calls.Called.{Called}
 use Rattle.head.specs.Calls as head
 use Rattle.head.specs.Outcome as alone
@@ -61,6 +57,7 @@ use Rattle.demands.proofs.Loading.{all_known_is, all_fitting_is}
 use Rattle.demands.proofs.Lines.{line_asks, line_saves}
 use Rattle.demands.proofs.Sim as sim
 use Rattle.demands.proofs.Range.{value_small}
+use Rattle.head.specs.declared.refusal.Refusal.{Refusal}
 
 -- ---- what may be loaded: the tests, and the sentences
 -- an address that is one of the 39 is that of its row
@@ -70,9 +67,9 @@ Among39 a = (r : ℕ) × (r < 39) × (a ≡ address (row_of r))
 among_told : (a : ℕ) → among stored a ≡ true → Among39 a
 among_told a h = go (place_of a) refl (sym (stored_at a) ∙ h)
   where
-    go : (p : Place) → place_of a ≡ p → is_at (place_of a) ≡ true → Among39 a
-    go (At r) q k = (r, place_below a q, sym (place_address a q))
-    go Nowhere q k = absurd (false≢true (rw q at k))
+    go : (p : Option ℕ) → place_of a ≡ p → is_at (place_of a) ≡ true → Among39 a
+    go (Some r) q k = (r, place_below a q, sym (place_address a q))
+    go None q k = absurd (false≢true (rw q at k))
 
 among_holds : (a : ℕ) → Among39 a → among stored a ≡ true
 among_holds a k = stored_at a ∙ rw (k.2, row_place k.0 k.1)
@@ -184,7 +181,7 @@ unfolding all_right_of
 well_long h w =
     let t = right_long rows h.stored.values (stored_told h.stored (told h w).stored).values in omega (arith, rows_count)
 
-place_35 : place_of 0x35 ≡ At 29
+place_35 : place_of 0x35 ≡ Some 29
 unfolding place_of rows
 place_35 = refl
 
@@ -218,10 +215,10 @@ loaded_is h s w f =
 
 module _ (h : Head) (s : List ℕ) where
   -- where the call is done, all its tests hold
-  done_told : (alone.called (alone.load s) h).answer ≡ answer.Done → (wellformed_of h ≡ true) × (loadable s ≡ true)
+  done_told : (alone.called (alone.load s) h).answer ≡ (Ok tt) → (wellformed_of h ≡ true) × (loadable s ≡ true)
   unfolding alone.called head.load_of
   done_told =
-      either (λ (c : Called). c.answer ≡ answer.Done → (wellformed_of h ≡ true) × (loadable s ≡ true)) (head.refused_with h) (head.done_with (head.loaded_of h s))
+      either (λ (c : Called). c.answer ≡ (Ok tt) → (wellformed_of h ≡ true) × (loadable s ≡ true)) (head.refused_with h) (head.done_with (head.loaded_of h s))
       ((wellformed_of h, NoHead) ∷ head.sheet_tests s)
       (λ why e. absurd (let z : ◌≡◌ {A = ℕ} 0 1 = cc in omega arith))
       (λ t e. (t.0, tests_told s t.1.0 t.1.1.0 t.1.1.1.0))
@@ -230,19 +227,19 @@ module _ (h : Head) (s : List ℕ) where
   unfolding alone.called head.load_of
   load_is w e = let t = tests_hold s e in rw (w, t.0, t.1, t.2)
 
-  takes : wellformed_of h ≡ true → (alone.called (alone.load s) h).answer ≡ answer.Done ↔ Loadable s
+  takes : wellformed_of h ≡ true → (alone.called (alone.load s) h).answer ≡ (Ok tt) ↔ Loadable s
   takes w = (λ e. loadable_told s (done_told e).1, λ l. ap (λ (c : Called). c.answer) (load_is w (loadable_holds s l)))
 
-  loads : (alone.called (alone.load s) h).answer ≡ answer.Done → Loaded h (alone.called (alone.load s) h).head s
+  loads : (alone.called (alone.load s) h).answer ≡ (Ok tt) → Loaded h (alone.called (alone.load s) h).head s
   loads e = let d = done_told e in rw (load_is d.0 d.1) (loaded_is h s d.0 (loadable_told s d.1))
 
 -- bytes that may not be loaded change nothing
 unloaded : (h : Head) (s : List ℕ) → (Loadable s → ⊥) → (alone.called (alone.load s) h).head ≡ h
 unloaded h s never = go (alone.called (alone.load s) h).answer refl
   where
-    go : (a : Answer) → (alone.called (alone.load s) h).answer ≡ a → (alone.called (alone.load s) h).head ≡ h
-    go answer.Done e = absurd (never (loadable_told s (done_told h s e).1))
-    go (answer.Refused why) e = called_same (alone.load s) h why e
+    go : (a : Result ⊤ Refusal) → (alone.called (alone.load s) h).answer ≡ a → (alone.called (alone.load s) h).head ≡ h
+    go (Ok tt) e = absurd (never (loadable_told s (done_told h s e).1))
+    go (Err why) e = called_same (alone.load s) h why e
 
 -- ---- writing
 -- the sheet of 39 values on a space with room for it
@@ -278,17 +275,17 @@ pub record Room (h : Head) (space : List ℕ) : Type 0 where
   pub well : wellformed_of h ≡ true
   pub long : 274 ≤ length space
 
-pub save_room : (h : Head) (space : List ℕ) → head.save_of h (length space) ≡ answer.Done → Room h space
+pub save_room : (h : Head) (space : List ℕ) → head.save_of h (length space) ≡ (Ok tt) → Room h space
 unfolding head.save_of
 save_room h space = go (wellformed_of h) refl (ltb (length space) whole) refl
   where
-    go : (a : Bool) → wellformed_of h ≡ a → (b : Bool) → ltb (length space) whole ≡ b → head.save_of h (length space) ≡ answer.Done → Room h space
+    go : (a : Bool) → wellformed_of h ≡ a → (b : Bool) → ltb (length space) whole ≡ b → head.save_of h (length space) ≡ (Ok tt) → Room h space
     go true p false q e = record { well = p; long = ltb-false _ _ q }
-    go true p true q e = absurd (let d : answer.Refused _ ≡ answer.Done = rw (p, q) at e in let z : ◌≡◌ {A = ℕ} 0 1 = cc in omega arith)
-    go false p b q e = absurd (let d : answer.Refused _ ≡ answer.Done = rw p at e in let z : ◌≡◌ {A = ℕ} 0 1 = cc in omega arith)
+    go true p true q e = absurd (let d : Err _ ≡ (Ok tt) = rw (p, q) at e in let z : ◌≡◌ {A = ℕ} 0 1 = cc in omega arith)
+    go false p b q e = absurd (let d : Err _ ≡ (Ok tt) = rw p at e in let z : ◌≡◌ {A = ℕ} 0 1 = cc in omega arith)
 
 module _ (h : Head) (space : List ℕ) (k : Room h space) where
-  save_done : head.save_of h (length space) ≡ answer.Done
+  save_done : head.save_of h (length space) ≡ (Ok tt)
   unfolding head.save_of
   save_done = rw (k.well, le-ltb (length space) 274 k.long)
 
@@ -298,7 +295,7 @@ module _ (h : Head) (space : List ℕ) (k : Room h space) where
 
 -- ---- from one head to another
 swapped : (g h : Head) → Typed g → Typed h → wellformed_of g ≡ true → wellformed_of h ≡ true
-    → let k = alone.called (alone.load (sheet_of g.stored.values)) h in (k.answer ≡ answer.Done) × (k.head.stored.values ≡ g.stored.values)
+    → let k = alone.called (alone.load (sheet_of g.stored.values)) h in (k.answer ≡ (Ok tt)) × (k.head.stored.values ≡ g.stored.values)
 unfolding alone.called head.load_of head.loaded_of
 swapped g h t u w x =
     let v = g.stored.values in
@@ -306,8 +303,8 @@ swapped g h t u w x =
     rw (x, sheet_formed v t.places, written_known v t.places t.words r, written_fitting v t.places t.words r)
     (refl, written_stored v t.places t.words r h.stored.values u.places)
 
-travels : (g h : Head) (space : List ℕ) → Typed g → Typed h → wellformed_of h ≡ true → head.save_of g (length space) ≡ answer.Done
-    → let k = alone.called (alone.load (take 274 (head.save_space_of g space))) h in (k.answer ≡ answer.Done) × (k.head.stored.values ≡ g.stored.values)
+travels : (g h : Head) (space : List ℕ) → Typed g → Typed h → wellformed_of h ≡ true → head.save_of g (length space) ≡ (Ok tt)
+    → let k = alone.called (alone.load (take 274 (head.save_space_of g space))) h in (k.answer ≡ (Ok tt)) × (k.head.stored.values ≡ g.stored.values)
 travels g h space t u x e =
     let k = save_room g space e in
     rw (saved_is g space k, take_at (sheet_of g.stored.values) (drop 274 space) 274 (sheet_length g.stored.values t.places)) (swapped g h t u k.well x)
@@ -358,7 +355,7 @@ module _ (cs : Calls) (j : ℕ) (jl : j < count cs) where
     force_there : in_force (cs ▸ named j (load s)) j ≡ alone_loaded.stored.number
     force_there = sym (sim.sim (cs ▸ named j (load s)) j still_there).force_is ∙ ap (λ (h : Head). h.stored.number) loaded_there
 
-    done_there : Loadable s → (alone.called (alone.load s) (head_in cs j)).answer ≡ answer.Done
+    done_there : Loadable s → (alone.called (alone.load s) (head_in cs j)).answer ≡ (Ok tt)
     done_there l = (takes (head_in cs j) s well).1 l
 
     counts : Loadable s
@@ -378,16 +375,16 @@ module _ (cs : Calls) (i j : ℕ) (space : List ℕ) (bs : calls.Bytes cs) (il :
   abbrev s : List ℕ
   s = take 274 (save_space_of (run cs) i space)
 
-  alone_saves : head.save_of (head_in cs i) (length space) ≡ answer.Done
+  alone_saves : head.save_of (head_in cs i) (length space) ≡ (Ok tt)
   alone_saves = save_done (head_in cs i) space (record { well = well cs i il; long = long })
 
-  alone_loads : let k = alone.called (alone.load s) (head_in cs j) in (k.answer ≡ answer.Done) × (k.head.stored.values ≡ (head_in cs i).stored.values)
+  alone_loads : let k = alone.called (alone.load s) (head_in cs j) in (k.answer ≡ (Ok tt)) × (k.head.stored.values ≡ (head_in cs i).stored.values)
   alone_loads =
       rw (line_saves (run cs) (line_fits cs i il) i space (there cs i il)).1
       (travels (head_in cs i) (head_in cs j) space (typed cs i bs il) (typed cs j bs jl) (well cs j jl) alone_saves)
 
-  swaps : (save_of (run cs) i (length space) ≡ answer.Done)
-      × ((ask_of (load s) (run cs) j).answer ≡ answer.Done)
+  swaps : (save_of (run cs) i (length space) ≡ (Ok tt))
+      × ((ask_of (load s) (run cs) j).answer ≡ (Ok tt))
       × ((r : ℕ) → r < 39 → value (cs ▸ named j (load s)) j r ≡ value cs i r)
       × (in_force (cs ▸ named j (load s)) j ≡ in_force cs j)
   swaps = (
@@ -427,7 +424,7 @@ module _ (s : List ℕ) where
   checked true false c p q r = rw (p, ← all_known_is s, q)
   checked false b c p q r = rw p
 
-  check_done : loadable s ≡ true → check_of s ≡ sheet-answer.Done
+  check_done : loadable s ≡ true → check_of s ≡ (Ok tt)
   unfolding check_of
   check_done e = let t = tests_hold s e in rw (t.0, t.1, t.2)
 

@@ -13,6 +13,7 @@ use lib.Dec.{leb, ltb, eqb}
 use lib.IntN.{ℤ}
 use lib.ListN.{length, get_or, set, take, length-set, get_or-map}
 use lib.Seq.{get_or-set_same, get_or-set_other}
+use Rattle.std.specs.Prelude.{Some}
 use Rattle.rows.specs.Table.{rows, row_of, blank, delivery}
 use Rattle.wire.specs.Telegram.{fields_of}
 use Rattle.judge.specs.Judged.{judged_of}
@@ -252,7 +253,7 @@ module _ (h : Head) (e : Entry) (A : Is h e) where
   keys_is s n = rw (adopts_is s) (go (leb s 7 && room n) (adopts s e))
     where
       announcing : Head → Stepped
-      announcing x = record { head = x; replied = true; reply = adoption_of (status_of h) h.stored.offer }
+      announcing x = record { head = x; reply = Some (adoption_of (status_of h) h.stored.offer) }
 
       go : (x y : Bool)
           → Is (cond x (cond y (announcing (adopted_of (star_taken h s))) (unanswered (star_taken h s))).head h)

@@ -1,6 +1,7 @@
 -- One telegram, at what a head stores: the ordered checks come to the account's plain conjunction, by cases on the command, the access and
 -- the tests, and what an accepted telegram does is told part by part, by the sort of its address.
 -- Assumes nothing.
+use Rattle.std.specs.Prelude.{Some, None}
 use Prim.Native.Nat.{ℕ, ◌<◌}
 use mathlib.Core.Path.{◌≡◌, refl, sym, ◌∙◌, ap}
 use mathlib.Core.Bool.{Bool, true, false, cond, not, ◌&&◌, ◌||◌, and-eq-true_iff, and-false, and-true, or-false, true≢false}
@@ -17,7 +18,6 @@ use Rattle.wire.specs.Telegram.{fields_of}
 use Rattle.wire.specs.Word.{byte0}
 use Rattle.rows.specs.declared.access.Access.{Access}
 use Rattle.rows.specs.declared.access.Access.TheVariants.{ReadWrite, ReadOnly, WriteOnly, Unknown}
-use Rattle.rows.specs.declared.table.Place.TheVariants.{At, Nowhere}
 use Rattle.rows.specs.Table.{rows, row_of, address, delivery, place_of}
 use Rattle.rows.specs.Access.{access_of, broadcast_of}
 use Rattle.rows.specs.Kinds.{kind_of}
@@ -214,7 +214,7 @@ unfolding look
 dropping_becomes st = record { size = refl; vals = λ r lt. refl; force = refl; lock = refl; offer = refl }
 
 -- what a write gives a parameter, by its place; and one of 0 to 35h
-pub value_gives : (v a i r : ℕ) → place_of a ≡ At i → r < 39 → gives a v r ≡ cond (eqb r i) (some v) none
+pub value_gives : (v a i r : ℕ) → place_of a ≡ Some i → r < 39 → gives a v r ≡ cond (eqb r i) (some v) none
 unfolding gives
 value_gives v a i r e lt = rw (value_same a i r e lt, value_system a i e)
 
@@ -223,7 +223,7 @@ unfolding place_of rows
 gives_35 r lt = value_gives 0 0x35 29 r refl lt
 
 module _ (v w : ℕ) (st : parts.Stored) (full : length st.values ≡ 39) where
-  none_gives : (a r : ℕ) → place_of a ≡ Nowhere → eqb a 0xA0 ≡ false → r < 39 → gives a v r ≡ none
+  none_gives : (a r : ℕ) → place_of a ≡ None → eqb a 0xA0 ≡ false → r < 39 → gives a v r ≡ none
   unfolding gives
   none_gives a r e p lt = rw (nowhere_apart a r e lt, p)
 

@@ -1,6 +1,7 @@
 -- What a telegram does and is answered, verdict by verdict and deed by deed: a reply is said with the status word handed in, a read shows, clears the
 -- static bit or releases, and only a damaged telegram counts.
 -- Assumes nothing.
+use Rattle.std.specs.Prelude.{Ok, Option, is_some}
 use Prim.Native.Nat.{ℕ, ◌+◌, ◌<◌}
 use native.Mathlib.Omega.{arith}
 use mathlib.Core.Path.{◌≡◌, refl, sym, ◌∙◌, ap}
@@ -16,7 +17,7 @@ use Rattle.wire.specs.declared.fault.Fault.{Fault}
 use Rattle.wire.specs.declared.fault.Fault.TheVariants.{CheckSum, Timeout, Unlisted, Below, Above, UnknownParameter, NoAccess, WriteRefused, ReadRefused, DeviceState, Locked}
 use Rattle.wire.specs.Check.{hit_of}
 use Rattle.wire.specs.Faults.{code_of}
-use Rattle.wire.specs.Telegram.{fields_of, bytes_of}
+use Rattle.wire.specs.Telegram.{fields_of, bytes_of, ten_in}
 use Rattle.wire.specs.Word.{byte0}
 use Rattle.wire.proofs.Laws.{half_bytes, word_bytes}
 use Rattle.rows.specs.declared.access.Access.{Access}
@@ -55,11 +56,9 @@ use Rattle.effects.specs.Measured.{measurement_by, released_of}
 use Rattle.effects.specs.Aimed.{stays_of, turned_of, targets_by, cleared_of}
 use Rattle.effects.proofs.Turns.{turned_same}
 use Rattle.effects.specs.Restart.{restarted_of}
-use Rattle.reply.specs.declared.Said.{Said}
 use Rattle.reply.specs.Word.{carried_of}
 use Rattle.reply.specs.Reply.{read_of, answer_of, silence, said, error_reply, value_reply, reply_by, reply_of}
 use Rattle.reply.proofs.Replies.{reply_ten, silent_none, refused_error}
-use Rattle.head.specs.declared.calls.Heard.TheVariants as heard
 use Rattle.head.specs.Hear.{gathered_of, standing_of, restarts_of, started_of, affected_of, told_of}
 use Rattle.head.proofs.Refused.{Unheeded, silent, refused, unheeded_only}
 use Rattle.demands.specs.Run.{product}
@@ -74,8 +73,8 @@ either P true p q = p
 either P false p q = q
 
 -- ---- what is said copies
-abbrev Loud : Telegram → ℕ → Said → Type 0
-Loud t word s = s.replied ≡ true → Copies t (fields_of s.reply) word
+abbrev Loud : Telegram → ℕ → Option (List ℕ) → Type 0
+Loud t word s = is_some s ≡ true → Copies t (fields_of (ten_in s)) word
 
 said_copies : (t : Telegram) (parameter word value : ℕ) → word < 65536 → Loud t word (said t parameter word value)
 unfolding said fields_of bytes_of
@@ -100,8 +99,8 @@ reply_copies Silent j h word small = silence_copies j.telegram word
 reply_copies (Refused fault) j h word small = said_copies j.telegram _ word _ small
 
 -- ---- what is obeyed is answered with the telegram's own parameter
-abbrev Own : Telegram → Said → Type 0
-Own t s = s.replied ≡ true → (fields_of s.reply).parameter ≡ t.parameter
+abbrev Own : Telegram → Option (List ℕ) → Type 0
+Own t s = is_some s ≡ true → (fields_of (ten_in s)).parameter ≡ t.parameter
 
 said_own : (t : Telegram) (word value : ℕ) → Own t (said t t.parameter word value)
 unfolding said fields_of bytes_of
@@ -136,55 +135,55 @@ module _ (j : Judged) (h : Head) (word : ℕ) where
 
 -- what is said is a reply, with this parameter and this value
 said_shows : (t : Telegram) (parameter word value : ℕ) → let s = said t parameter word value in
-    (s.replied ≡ true) × ((fields_of s.reply).parameter ≡ parameter) × (value < 4294967296 → (fields_of s.reply).value ≡ value)
+    (is_some s ≡ true) × ((fields_of (ten_in s)).parameter ≡ parameter) × (value < 4294967296 → (fields_of (ten_in s)).value ≡ value)
 unfolding said fields_of bytes_of
 said_shows t parameter word value = (refl, refl, λ small. word_bytes value small)
 
 -- ---- a telegram that a byte ends: what it is judged, and the head after it
 abbrev pub judging : Head → ℕ → ℕ → Judged
-judging h b t = judged_of (gathered_of h.ear b t).ten (standing_of h)
+judging h b t = judged_of (ten_in (gathered_of h.ear b t).ten) (standing_of h)
 
 abbrev pub told : Head → ℕ → ℕ → Head
 told h b t = told_of (judging h b t) h t
 
 -- where one reply is counted there is one, and it stands in the space
-pub answered : (h : Head) (b t : ℕ) (space : List ℕ) → Taken h space → (gathered_of h.ear b t).whole ≡ true
-    → (product.on_head.byte h b t (length space)).heard ≡ heard.Replies 1
-    → ((reply_of (judging h b t) h (told h b t)).replied ≡ true)
-    × (take 10 (product.on_head.space h b t space) ≡ (reply_of (judging h b t) h (told h b t)).reply)
-answered h b t space k e one = go (reply_of (judging h b t) h (told h b t)).replied refl
+pub answered : (h : Head) (b t : ℕ) (space : List ℕ) → Taken h space → is_some (gathered_of h.ear b t).ten ≡ true
+    → (product.on_head.byte h b t (length space)).heard ≡ Ok 1
+    → (is_some (reply_of (judging h b t) h (told h b t)) ≡ true)
+    × (take 10 (product.on_head.space h b t space) ≡ ten_in (reply_of (judging h b t) h (told h b t)))
+answered h b t space k e one = go (is_some (reply_of (judging h b t) h (told h b t))) refl
   where
-    go : (r : Bool) → (reply_of (judging h b t) h (told h b t)).replied ≡ r
-        → ((reply_of (judging h b t) h (told h b t)).replied ≡ true)
-        × (take 10 (product.on_head.space h b t space) ≡ (reply_of (judging h b t) h (told h b t)).reply)
+    go : (r : Bool) → is_some (reply_of (judging h b t) h (told h b t)) ≡ r
+        → (is_some (reply_of (judging h b t) h (told h b t)) ≡ true)
+        × (take 10 (product.on_head.space h b t space) ≡ ten_in (reply_of (judging h b t) h (told h b t)))
     go true r =
-        (r, rw (answers h b t space k e r).1 (take_at (reply_of (judging h b t) h (told h b t)).reply (drop 10 space) 10 (reply_ten (judging h b t) h (told h b t))))
+        (r, rw (answers h b t space k e r).1 (take_at (ten_in (reply_of (judging h b t) h (told h b t))) (drop 10 space) 10 (reply_ten (judging h b t) h (told h b t))))
     go false r = let none = (keeps_silent h b t space k e r).0 in let z : ◌≡◌ {A = ℕ} 0 1 = cc in absurd (omega arith)
 
 -- an obeyed telegram that is answered with this value draws that reply
-pub said_told : (h : Head) (b t : ℕ) (space : List ℕ) → Taken h space → (gathered_of h.ear b t).whole ≡ true → (v : ℕ)
+pub said_told : (h : Head) (b t : ℕ) (space : List ℕ) → Taken h space → is_some (gathered_of h.ear b t).ten ≡ true → (v : ℕ)
     → let j = judging h b t in
     let word = carried_of j.deed h (told h b t) in
     let x = fields_of (take 10 (product.on_head.space h b t space)) in
     j.verdict ≡ Obeyed → value_reply j h word ≡ said j.telegram j.telegram.parameter word v
-    → ((product.on_head.byte h b t (length space)).heard ≡ heard.Replies 1) × (x.parameter ≡ j.telegram.parameter) × (v < 4294967296 → x.value ≡ v)
+    → ((product.on_head.byte h b t (length space)).heard ≡ Ok 1) × (x.parameter ≡ j.telegram.parameter) × (v < 4294967296 → x.value ≡ v)
 unfolding reply_of
 said_told h b t space k e v obeyed says =
     let j = judging h b t in
     let word = carried_of j.deed h (told h b t) in
     let is = obeyed_says j.verdict j h word obeyed ∙ says in
     let s = said_shows j.telegram j.telegram.parameter word v in
-    let a = answers h b t space k e (ap (λ (x : Said). x.replied) is ∙ s.0) in
-    let r = (answered h b t space k e a.0).1 ∙ ap (λ (x : Said). x.reply) is in
+    let a = answers h b t space k e (ap (λ (x : Option (List ℕ)). is_some x) is ∙ s.0) in
+    let r = (answered h b t space k e a.0).1 ∙ ap (λ (x : Option (List ℕ)). ten_in x) is in
     (a.0, rw r s.1, λ small. rw r (s.2 small))
 
 -- the telegram was obeyed then, and the reply has its parameter; or it was refused
-pub heeded : (h : Head) (b t : ℕ) (space : List ℕ) → Taken h space → (gathered_of h.ear b t).whole ≡ true
-    → (product.on_head.byte h b t (length space)).heard ≡ heard.Replies 1
+pub heeded : (h : Head) (b t : ℕ) (space : List ℕ) → Taken h space → is_some (gathered_of h.ear b t).ten ≡ true
+    → (product.on_head.byte h b t (length space)).heard ≡ Ok 1
     → (P : Type 0)
     → ((judging h b t).verdict ≡ Obeyed
-    → (fields_of (take 10 (product.on_head.space h b t space))).parameter ≡ (fields_of (gathered_of h.ear b t).ten).parameter
-    → (value_reply (judging h b t) h (carried_of (judging h b t).deed h (told h b t))).replied ≡ true → P)
+    → (fields_of (take 10 (product.on_head.space h b t space))).parameter ≡ (fields_of (ten_in (gathered_of h.ear b t).ten)).parameter
+    → is_some (value_reply (judging h b t) h (carried_of (judging h b t).deed h (told h b t))) ≡ true → P)
     → ((f : Fault) → (judging h b t).verdict ≡ Refused f → P) → P
 unfolding judged_of reply_of
 heeded h b t space k e one P obeyed erred = go (judging h b t).verdict refl
@@ -195,13 +194,13 @@ heeded h b t space k e one P obeyed erred = go (judging h b t).verdict refl
     word : ℕ
     word = carried_of j.deed h (told h b t)
 
-    sent : ((reply_of j h (told h b t)).replied ≡ true) × (take 10 (product.on_head.space h b t space) ≡ (reply_of j h (told h b t)).reply)
+    sent : (is_some (reply_of j h (told h b t)) ≡ true) × (take 10 (product.on_head.space h b t space) ≡ ten_in (reply_of j h (told h b t)))
     sent = answered h b t space k e one
 
-    loud : j.verdict ≡ Obeyed → (value_reply j h word).replied ≡ true
-    loud v = sym (ap (λ (s : Said). s.replied) (obeyed_says j.verdict j h word v)) ∙ sent.0
+    loud : j.verdict ≡ Obeyed → is_some (value_reply j h word) ≡ true
+    loud v = sym (ap (λ (s : Option (List ℕ)). is_some s) (obeyed_says j.verdict j h word v)) ∙ sent.0
 
-    own : j.verdict ≡ Obeyed → (fields_of (take 10 (product.on_head.space h b t space))).parameter ≡ (fields_of (gathered_of h.ear b t).ten).parameter
+    own : j.verdict ≡ Obeyed → (fields_of (take 10 (product.on_head.space h b t space))).parameter ≡ (fields_of (ten_in (gathered_of h.ear b t).ten)).parameter
     own v = rw (sent.1, obeyed_says j.verdict j h word v) (value_own j.command j h word refl (loud v))
 
     go : (v : Verdict) → j.verdict ≡ v → P
@@ -467,11 +466,11 @@ damaged_verdict ten h n =
     rest = node_check (command_of (fields_of ten).command) (mine_of (fields_of ten) (standing_of h)) else late_of (fields_of ten) (standing_of h)
 
 -- the reply to a telegram that is refused: one, with FDh and the code
-said_loud : (t : Telegram) (word : ℕ) (f : Fault) → (error_reply t word f).replied ≡ true
+said_loud : (t : Telegram) (word : ℕ) (f : Fault) → is_some (error_reply t word f) ≡ true
 unfolding error_reply said
 said_loud t word f = refl
 
-code_told : (t : Telegram) (word : ℕ) (f : Fault) → let x = fields_of (error_reply t word f).reply in (x.parameter ≡ 0xFD) × (x.value ≡ code_of f)
+code_told : (t : Telegram) (word : ℕ) (f : Fault) → let x = fields_of (ten_in (error_reply t word f)) in (x.parameter ≡ 0xFD) × (x.value ≡ code_of f)
 unfolding error_reply said fields_of bytes_of
 code_told t word CheckSum = (refl, refl)
 code_told t word Timeout = (refl, refl)
@@ -485,10 +484,10 @@ code_told t word ReadRefused = (refl, refl)
 code_told t word DeviceState = (refl, refl)
 code_told t word Locked = (refl, refl)
 
-pub refused_told : (h : Head) (b t : ℕ) (space : List ℕ) → Taken h space → (gathered_of h.ear b t).whole ≡ true
+pub refused_told : (h : Head) (b t : ℕ) (space : List ℕ) → Taken h space → is_some (gathered_of h.ear b t).ten ≡ true
     → (f : Fault) → (judging h b t).verdict ≡ Refused f
     → let x = fields_of (take 10 (product.on_head.space h b t space)) in
-    ((product.on_head.byte h b t (length space)).heard ≡ heard.Replies 1) × (x.parameter ≡ 0xFD) × (x.value ≡ code_of f)
+    ((product.on_head.byte h b t (length space)).heard ≡ Ok 1) × (x.parameter ≡ 0xFD) × (x.value ≡ code_of f)
 refused_told h b t space k e f v =
     let j = judging h b t in
     let after = told h b t in
@@ -496,21 +495,21 @@ refused_told h b t space k e f v =
     let is = refused_error j h after f v in
     let a = answers h b t space k e (rw is (said_loud j.telegram word f)) in
     let c = code_told j.telegram word f in
-    let r = (answered h b t space k e a.0).1 ∙ ap (λ (s : Said). s.reply) is in
+    let r = (answered h b t space k e a.0).1 ∙ ap (λ (s : Option (List ℕ)). ten_in s) is in
     rw r (a.0, c.0, c.1)
 
-pub refuses : (h : Head) (b t : ℕ) (space : List ℕ) → Taken h space → (gathered_of h.ear b t).whole ≡ true
-    → hit_of (gathered_of h.ear b t).ten ≢ 0
-    → let own = mine (fields_of (gathered_of h.ear b t).ten) h in
+pub refuses : (h : Head) (b t : ℕ) (space : List ℕ) → Taken h space → is_some (gathered_of h.ear b t).ten ≡ true
+    → hit_of (ten_in (gathered_of h.ear b t).ten) ≢ 0
+    → let own = mine (fields_of (ten_in (gathered_of h.ear b t).ten)) h in
     let x = fields_of (take 10 (product.on_head.space h b t space)) in
-    ((product.on_head.byte h b t (length space)).heard ≡ heard.Replies (cond own 1 0))
+    ((product.on_head.byte h b t (length space)).heard ≡ Ok (cond own 1 0))
     × (own ≡ true → (x.parameter ≡ 0xFD) × (x.value ≡ 0x0080))
     × ((product.on_head.byte h b t (length space)).head.faults.inputs ≡ cond own (remembered_of h.faults.inputs 0x0080) h.faults.inputs)
 unfolding reply_of silence complained_of
 refuses h b t space k e n = go (mine (fields_of ten) h) refl
   where
     ten : List ℕ
-    ten = (gathered_of h.ear b t).ten
+    ten = ten_in (gathered_of h.ear b t).ten
 
     j : Judged
     j = judging h b t
@@ -526,7 +525,7 @@ refuses h b t space k e n = go (mine (fields_of ten) h) refl
 
     go : (own : Bool) → mine (fields_of ten) h ≡ own
         → let x = fields_of (take 10 (product.on_head.space h b t space)) in
-        ((product.on_head.byte h b t (length space)).heard ≡ heard.Replies (cond (mine (fields_of ten) h) 1 0))
+        ((product.on_head.byte h b t (length space)).heard ≡ Ok (cond (mine (fields_of ten) h) 1 0))
         × (mine (fields_of ten) h ≡ true → (x.parameter ≡ 0xFD) × (x.value ≡ 0x0080))
         × ((product.on_head.byte h b t (length space)).head.faults.inputs
         ≡ cond (mine (fields_of ten) h) (remembered_of h.faults.inputs 0x0080) h.faults.inputs)

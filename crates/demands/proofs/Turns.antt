@@ -1,6 +1,7 @@
 -- Demand 3 of calls and racks in turn: the line after them is the one after the calls that they are, so its sentences are those of Demand3; and where no
 -- byte call of a rack draws two replies, the rack has no collision.
 -- Assumes nothing.
+use Rattle.std.specs.Prelude.{Ok, Err, Result}
 use Prim.Native.Nat.{ℕ, zero, suc, ◌*◌, ◌<◌, ◌≤◌}
 use mathlib.Core.Path.{◌≡◌, refl, sym, ap, ◌∙◌}
 use mathlib.Core.Bool.{Bool, true, false, cond, and-eq-true_iff}
@@ -8,13 +9,10 @@ use mathlib.Core.List.{List, [], ◌∷◌, ◌++◌}
 use native.Mathlib.Omega.{arith}
 use borrow.Author.Tests.{eqb-true, leb-true}
 use lib.ListN.{length}
-use Rattle.head.specs.declared.calls.Heard.{Heard}
-use Rattle.head.specs.declared.calls.Heard.TheVariants as heard
 use Rattle.line.specs.declared.calls.Line.{Line}
 use Rattle.line.specs.Calls.{byte_of}
 use Rattle.rack.specs.declared.Racked.{Racked}
 use Rattle.rack.specs.declared.Tally.{Tally}
-use Rattle.rack.specs.declared.Answer.TheVariants.{Laid, Refused}
 use Rattle.rack.specs.Rack.{is_rack, room_for, rack_of}
 use Rattle.rack.proofs.Theorems.{rack_not}
 use Rattle.demands.specs.Calls.{byte, dropped, Calls, ◌▸◌, Bytes, hearing_at}
@@ -27,6 +25,7 @@ use Rattle.demands.specs.Turns.{call, rack, Turns, none, ◌▹◌, line_after, 
 use Rattle.demands.proofs.Sim as sim
 use Rattle.demands.proofs.Proved.{proved}
 use Rattle.demands.proofs.Racks.{racks}
+use Rattle.head.specs.declared.refusal.Refusal.{Refusal}
 
 line_fits : (cs : Calls) → Fits (run cs)
 line_fits cs = record { fits = (sim.fits cs).fits; places = (sim.fits cs).places }
@@ -52,11 +51,11 @@ is_taken l bs n p f e =
 
 -- one that is not is refused, for whatever reason
 not_taken : (l : Line) (bs : List ℕ) (t n p : ℕ) → Fits l → taken (length bs) n p ≡ false
-    → ((rack_of l bs t n p).line ≡ l) × ((counts : Tally) → (rack_of l bs t n p).answer ≡ Laid counts → ⊥)
+    → ((rack_of l bs t n p).line ≡ l) × ((counts : Tally) → (rack_of l bs t n p).answer ≡ Ok counts → ⊥)
 unfolding taken is_rack room_for
 not_taken l bs t n p f e =
     let w = rack_not l bs t n p f.fits e in
-    (ap (λ (r : Racked). r.line) w.1, λ counts q. absurd (let a : Refused w.0 ≡ Laid counts = sym (ap (λ (x : Racked). x.answer) w.1) ∙ q in let z : ◌≡◌ {A = ℕ} 0 1 = cc in omega arith))
+    (ap (λ (r : Racked). r.line) w.1, λ counts q. absurd (let a : Err w.0 ≡ Ok counts = sym (ap (λ (x : Racked). x.answer) w.1) ∙ q in let z : ◌≡◌ {A = ℕ} 0 1 = cc in omega arith))
 
 rack_after : (cs : Calls) (bs : List ℕ) (t n p : ℕ) → (rack_of (run cs) bs t n p).line ≡ run (cond (taken (length bs) n p) (rack_calls cs bs t) cs)
 rack_after cs bs t n p = go (taken (length bs) n p) refl
@@ -72,11 +71,11 @@ same (ts ▹ call c) = ap (after product.on_line_of c) (same ts)
 same (ts ▹ rack bs t n p) = ap (λ (l : Line). (rack_of l bs t n p).line) (same ts) ∙ rack_after (spread ts) bs t n p
 
 -- ---- no byte call draws two replies
-collided_none : (h : Heard) → ((n : ℕ) → h ≡ heard.Replies n → n ≤ 1) → collided h ≡ 0
-collided_none (heard.Replies zero) k = refl
-collided_none (heard.Replies (suc zero)) k = refl
-collided_none (heard.Replies (suc (suc n))) k = absurd (omega (arith, k (suc (suc n)) refl))
-collided_none (heard.Refused why) k = refl
+collided_none : (h : Result ℕ Refusal) → ((n : ℕ) → h ≡ Ok n → n ≤ 1) → collided h ≡ 0
+collided_none (Ok zero) k = refl
+collided_none (Ok (suc zero)) k = refl
+collided_none (Ok (suc (suc n))) k = absurd (omega (arith, k (suc (suc n)) refl))
+collided_none (Err why) k = refl
 
 no_collision : (bs : List ℕ) (cs : Calls) (t : ℕ) → ((heard : List ℕ) (b : ℕ) (left : List ℕ) → bs ≡ heard ++ (b ∷ left) → Differ (hearing_at t cs heard))
     → collisions (drawn product.on_line_of (run cs) bs t) ≡ 0
@@ -88,7 +87,7 @@ no_collision (b ∷ bs) cs t d =
     rw (here, rest)
 
 one_reply : (cs : Calls) (bs : List ℕ) (t n p : ℕ) (counts : Tally) → ((heard : List ℕ) (b : ℕ) (left : List ℕ) → bs ≡ heard ++ (b ∷ left) → Differ (rack_calls cs heard t))
-    → (rack_of (run cs) bs t n p).answer ≡ Laid counts → (counts.collisions ≡ 0) × (10 * counts.replies ≤ length bs)
+    → (rack_of (run cs) bs t n p).answer ≡ Ok counts → (counts.collisions ≡ 0) × (10 * counts.replies ≤ length bs)
 unfolding runs after
 one_reply cs bs t n p counts d e = go (taken (length bs) n p) refl
   where
@@ -97,7 +96,7 @@ one_reply cs bs t n p counts d e = go (taken (length bs) n p) refl
         let w = is_taken (run cs) bs n p (line_fits cs) k in
         let ds = drawn product.on_line_of (emptied product.on_line_of (run cs) t) bs t in
         let found : Tally = record { replies = length (replies ds); collisions = collisions ds } in
-        let q : Laid found ≡ Laid counts = sym (racks.answers (run cs) bs t n p w) ∙ e in
+        let q : Ok found ≡ Ok counts = sym (racks.answers (run cs) bs t n p w) ∙ e in
         let same-counts : found ≡ counts = cc in
         let a = ap (λ (x : Tally). x.replies) same-counts in
         let b = ap (λ (x : Tally). x.collisions) same-counts in

@@ -6,6 +6,8 @@ use mathlib.Core.Path.{◌≡◌, refl, ◌∙◌, ap, sym}
 use mathlib.Core.Bool.{Bool, true, false, cond}
 use mathlib.Core.List.{List}
 use lib.Dec.{ltb, eqb}
+use Rattle.std.specs.Prelude.{Option, is_some}
+use Rattle.wire.specs.Telegram.{ten_in}
 use Rattle.judge.specs.declared.deed.Deed.{Deed}
 use Rattle.judge.specs.declared.judged.Judged.{Judged}
 use Rattle.judge.specs.declared.verdict.Verdict.{Verdict}
@@ -18,7 +20,6 @@ use Rattle.state.specs.Wellformed.{faults_fit, wellformed_of}
 use Rattle.state.specs.With.{with_faults, with_hit}
 use Rattle.effects.specs.Faults.{raised_of, counted_of, complained_of, restarted_faults, faults_by}
 use Rattle.effects.specs.Restart.{restarted_of}
-use Rattle.reply.specs.declared.Said.{Said}
 use Rattle.head.specs.Hear.{standing_of, restarts_of, affected_of, told_of, tell_of, step_of}
 use Rattle.head.proofs.Apart.{reply_apart}
 use Rattle.demands.specs.Run.{product}
@@ -80,7 +81,7 @@ module _ (h : Head) (x : ℕ) where
   tells ten t =
       let j = judged_of ten (standing_of h) in
       let r = reply_apart h h.ear x h.stored.offer j (told_of j other t) (told_of j h t) (told_word j t) in
-      (ap (λ (s : Said). s.replied) r, ap (λ (s : Said). s.reply) r, told_alike j t)
+      (ap (λ (s : Option (List ℕ)). is_some s) r, ap (λ (s : Option (List ℕ)). ten_in s) r, told_alike j t)
 
   steps : (b t : ℕ) → Steps Alike (step_of other b t) (step_of h b t)
   steps = apart.steps Alike other h refl (λ e. refl) tells

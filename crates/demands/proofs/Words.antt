@@ -1,6 +1,7 @@
 -- Which status word a reply carries: what an obeyed telegram does keeps the word of before just where its fields say so. And what request (iii) says of
 -- single replies.
 -- Assumes nothing.
+use Rattle.std.specs.Prelude.{Ok, is_some}
 use Prim.Native.Nat.{ℕ, ◌<◌}
 use native.Mathlib.Omega.{arith}
 use mathlib.Core.Path.{◌≡◌, refl, sym, ◌∙◌}
@@ -13,7 +14,7 @@ use lib.ListN.{length, take}
 use Rattle.wire.specs.declared.fault.Fault.{Fault}
 use Rattle.wire.specs.declared.telegram.Telegram.{Telegram}
 use Rattle.wire.specs.Check.{hit_of}
-use Rattle.wire.specs.Telegram.{fields_of}
+use Rattle.wire.specs.Telegram.{fields_of, ten_in}
 use Rattle.signed.specs.Number.{word_of}
 use Rattle.signed.proofs.Laws.{word_fits}
 use Rattle.rows.specs.Table.{rows, place_of}
@@ -38,7 +39,6 @@ use Rattle.effects.specs.Aimed.{targets_by, cleared_of}
 use Rattle.effects.proofs.Turns.{turned_same}
 use Rattle.reply.specs.Word.{keeps_old, carried_of}
 use Rattle.reply.specs.Reply.{position_word, read_of, silence, value_reply, reply_of}
-use Rattle.head.specs.declared.calls.Heard.TheVariants as heard
 use Rattle.head.specs.Hear.{gathered_of, standing_of, restarts_of, told_of}
 use Rattle.demands.specs.Run.{product}
 use Rattle.demands.specs.Alone.{Taken, setting}
@@ -94,12 +94,12 @@ error_new t = go (eqb 0xFD t.parameter) refl
     go false e = refl
 
 -- ---- an obeyed telegram that is answered is a read or a write
-obeyed_keeps : (t : Telegram) (j : Judged) (h : Head) (word : ℕ) → j.command ≡ command_of t.command → (value_reply j h word).replied ≡ true
+obeyed_keeps : (t : Telegram) (j : Judged) (h : Head) (word : ℕ) → j.command ≡ command_of t.command → is_some (value_reply j h word) ≡ true
     → keeps_old (deed_of Obeyed (command_of t.command) (kind_of t.parameter) t) ≡ keeps_word t
 unfolding command_of deed_of value_reply silence
 obeyed_keeps t j h word c r = go (eqb t.command 0) refl (eqb t.command 1) refl
   where
-    quiet : (x : Bool) → j.command ≡ cond x Broadcast Other → (value_reply j h word).replied ≡ false
+    quiet : (x : Bool) → j.command ≡ cond x Broadcast Other → is_some (value_reply j h word) ≡ false
     quiet true e = rw e
     quiet false e = rw e
 
@@ -118,10 +118,10 @@ unfolding read_of kind_of place_of rows other_of position_word
 shows_kept h v f = rw f
 
 -- ---- over the byte call
-module _ (h : Head) (b t : ℕ) (space : List ℕ) (k : Taken h space) (e : (gathered_of h.ear b t).whole ≡ true)
-    (one : (product.on_head.byte h b t (length space)).heard ≡ heard.Replies 1) where
+module _ (h : Head) (b t : ℕ) (space : List ℕ) (k : Taken h space) (e : is_some (gathered_of h.ear b t).ten ≡ true)
+    (one : (product.on_head.byte h b t (length space)).heard ≡ Ok 1) where
   abbrev asked : Telegram
-  asked = fields_of (gathered_of h.ear b t).ten
+  asked = fields_of (ten_in (gathered_of h.ear b t).ten)
 
   abbrev x : Telegram
   x = fields_of (take 10 (product.on_head.space h b t space))
@@ -186,16 +186,16 @@ module _ (h : Head) (b t : ℕ) (space : List ℕ) (k : Taken h space) (e : (gat
         rw after ((bits (told h b t)).bit8 ∙ released c p v),
       )
 
-  damaged_error : hit_of (gathered_of h.ear b t).ten ≢ 0 → x.parameter ≡ 0xFD
+  damaged_error : hit_of (ten_in (gathered_of h.ear b t).ten) ≢ 0 → x.parameter ≡ 0xFD
   unfolding judged_of
   damaged_error n =
-      heeded h b t space k e one (x.parameter ≡ 0xFD) (λ v own loud. absurd (n (obeyed_sound (hit_of (gathered_of h.ear b t).ten) asked (standing_of h) v)))
+      heeded h b t space k e one (x.parameter ≡ 0xFD) (λ v own loud. absurd (n (obeyed_sound (hit_of (ten_in (gathered_of h.ear b t).ten)) asked (standing_of h) v)))
       (λ f v. (refused_told h b t space k e f v).1)
 
-  raises : hit_of (gathered_of h.ear b t).ten ≢ 0 → bit_set x.word 7 ≡ (third h || not (eqb h.faults.pending 0))
+  raises : hit_of (ten_in (gathered_of h.ear b t).ten) ≢ 0 → bit_set x.word 7 ≡ (third h || not (eqb h.faults.pending 0))
   raises n =
       let after : x.word ≡ status_of (told h b t) = copies.word ∙ rw (damaged_error n, error_new asked, obeys h b t space k e) in
-      rw after ((bits (told h b t)).bit7 ∙ rw (told_counts (gathered_of h.ear b t).ten h t n).pending (go (third h)))
+      rw after ((bits (told h b t)).bit7 ∙ rw (told_counts (ten_in (gathered_of h.ear b t).ten) h t n).pending (go (third h)))
     where
       go : (x : Bool) → not (eqb (cond x 0x0080 h.faults.pending) 0) ≡ (x || not (eqb h.faults.pending 0))
       go true = refl

@@ -6,7 +6,8 @@ use mathlib.Core.Bool.{true, false, ◌&&◌, ◌||◌, true≢false, false≢tr
 use native.Mathlib.Omega.{arith}
 use lib.Dec.{eqb}
 use lib.IntN.{pos, nat_abs}
-use Rattle.wire.specs.Telegram.{fields_of}
+use Rattle.std.specs.Prelude.{is_some}
+use Rattle.wire.specs.Telegram.{fields_of, ten_in}
 use Rattle.state.specs.declared.parts.Head.{Head}
 use Rattle.state.specs.Wellformed.{wellformed_of}
 use Rattle.effects.specs.Restart.{fresh_of}
@@ -32,15 +33,15 @@ use Rattle.demands.proofs.WrongWords.{fails}
 -- the byte call ends an accepted write, of anything but A0h 9: what it is to do
 abbrev Writes : Head → ℕ → Type 0
 Writes h b =
-    let ten = (gathered_of h.ear b 0).ten in
+    let ten = ten_in (gathered_of h.ear b 0).ten in
     (wellformed_of h ≡ true)
-    × ((gathered_of h.ear b 0).whole ≡ true)
+    × (is_some (gathered_of h.ear b 0).ten ≡ true)
     × (accepted h.stored.number (locked h) ten ≡ true)
     × ((eqb (fields_of ten).parameter 0xA0 && eqb (fields_of ten).value 9) ≡ false)
 
 module _ (m : System) (d : Demand2 m) where
   acted : (h : Head) (b : ℕ) (f : Head → Head) → Writes h b → Hears h b f m
-      → let asked = fields_of (gathered_of h.ear b 0).ten in
+      → let asked = fields_of (ten_in (gathered_of h.ear b 0).ten) in
       Acted h (f (head.byte_of h b 0 10).head) (act_of asked.parameter asked.value) asked.value asked.word
   acted h b f (well, ends, ok, not9) e = rw (← e) (d.every.acts h b 0 space (record { well = well; room = omega arith }) ends ok not9)
 
@@ -131,7 +132,7 @@ five_fails m e d = false≢true (acted m d (gathered both 0x011FA0000000000005) 
 abbrev polled : Head
 polled = gathered taken 0x001FFA000000000000
 
-polled_told : (wellformed_of polled ≡ true) × ((gathered_of polled.ear 0xE5 0).whole ≡ true) × ((fields_of (gathered_of polled.ear 0xE5 0).ten).command ≡ 0) × (polled.targets.acknowledged1 ≡ true)
+polled_told : (wellformed_of polled ≡ true) × (is_some (gathered_of polled.ear 0xE5 0).ten ≡ true) × ((fields_of (ten_in (gathered_of polled.ear 0xE5 0).ten)).command ≡ 0) × (polled.targets.acknowledged1 ≡ true)
 unfolding computing
 polled_told = (refl, refl, refl, refl)
 

@@ -1,14 +1,12 @@
 -- The versions that keep the wrong thing fail: each by a line of two heads, some telegrams, and what one of the heads then shows; a restart that leaves
 -- it, and a head that answers no more once it keeps something, by a head that keeps 1.
 -- Assumes nothing.
+use Rattle.std.specs.Prelude.{Ok, Err, Result}
 use Prim.Native.Nat.{ℕ, ◌<◌}
 use mathlib.Core.Path.{◌≡◌, refl, sym, ◌∙◌, ap}
 use mathlib.Core.Logic.{◌≢◌}
 use native.Mathlib.Omega.{arith}
 use Rattle.effects.specs.Restart.{fresh_of}
-use Rattle.head.specs.declared.calls.Heard.TheVariants as heard
-use Rattle.head.specs.declared.calls.Hit.{Hit}
-use Rattle.head.specs.declared.calls.Hit.TheVariants.{Bits, Refused}
 use Rattle.demands.specs.Calls.{Calls}
 use Rattle.demands.specs.Past.{count}
 use Rattle.demands.specs.Run.{System, machine_of, runs}
@@ -18,15 +16,16 @@ use Rattle.demands.specs.Unseen.{keeping, Unseen}
 use Rattle.demands.specs.WrongHits.{zero_kept, others_missed, casts_missed, first_kept, yes_kept, KeptAtPower, muted, pair, WrongHits}
 use Rattle.demands.proofs.Computing.{computing}
 use Rattle.demands.proofs.Wrongs.{read20}
+use Rattle.head.specs.declared.refusal.Refusal.{Refusal}
 
-abbrev bits_in : Hit → ℕ
-bits_in (Bits x) = x
-bits_in (Refused why) = 256
+abbrev bits_in : Result ℕ Refusal → ℕ
+bits_in (Ok x) = x
+bits_in (Err why) = 256
 
 -- after these calls head k of the version shows x, and looking back finds y
 record Differs (m : System) (cs : Calls) (k x y : ℕ) : Type 0 where
   there : k < count cs
-  shows : m.on_line_of.hit (runs (machine_of m) cs) k ≡ Bits x
+  shows : m.on_line_of.hit (runs (machine_of m) cs) k ≡ Ok x
   finds : last_hit cs k ≡ y
   differ : x ≢ y
 
@@ -66,14 +65,14 @@ kept_at_power_fails m e d =
 -- the last byte of the read of 20h at 31
 muted_fails : Unseen muted → ⊥
 unfolding computing
-muted_fails u = let e : heard.Replies 0 ≡ heard.Replies 1 = u.heard read20 1 0x3F 0 10 in let z : ◌≡◌ {A = ℕ} 0 1 = cc in omega arith
+muted_fails u = let e : ◌≡◌ {A = Result ℕ Refusal} (Ok 0) (Ok 1) = u.heard read20 1 0x3F 0 10 in let z : ◌≡◌ {A = ℕ} 0 1 = cc in omega arith
 
 -- the bits that a call shows
-abbrev bits_of : Hit → ℕ
-bits_of (Bits n) = n
-bits_of (Refused why) = 0
+abbrev bits_of : Result ℕ Refusal → ℕ
+bits_of (Ok n) = n
+bits_of (Err why) = 0
 
-nothing_shown_fails : (m : System) → m.on_head.hit (keeping (fresh_of 31 0) 5) ≡ Bits 0 → Demand2 m → ⊥
+nothing_shown_fails : (m : System) → m.on_head.hit (keeping (fresh_of 31 0) 5) ≡ Ok 0 → Demand2 m → ⊥
 unfolding computing
 nothing_shown_fails m e d = let z : ◌≡◌ {A = ℕ} 0 5 = ap bits_of (sym e ∙ d.shows (keeping (fresh_of 31 0) 5) refl) in omega arith
 

@@ -1,6 +1,7 @@
 -- The versions that are wrong in Auto-ID fail: one by a line of one head, to which 5 is offered; the others by a head at 31 to which 5 is offered, or by two
 -- of them, and what the call then leaves.
 -- Assumes nothing.
+use Rattle.std.specs.Prelude.{Ok, Err, Result, is_some}
 use Prim.Native.Nat.{ℕ, ◌<◌}
 use mathlib.Core.Path.{◌≡◌, refl, sym, ◌∙◌, ap}
 use mathlib.Core.Bool.{true, false, true≢false}
@@ -9,12 +10,11 @@ use mathlib.Core.List.{List, [], ◌∷◌, ◌++◌}
 use native.Mathlib.Omega.{arith}
 use lib.ListN.{replicate}
 use Rattle.wire.specs.Check.{hit_of}
+use Rattle.wire.specs.Telegram.{ten_in}
 use Rattle.state.specs.declared.parts.Head.{Head}
 use Rattle.state.specs.declared.parts.Stored.{Stored}
 use Rattle.state.specs.With.{with_stored, with_faults, with_ear, with_offer, with_pending}
 use Rattle.effects.specs.Restart.{fresh_of}
-use Rattle.head.specs.declared.calls.Heard.{Heard}
-use Rattle.head.specs.declared.calls.Heard.TheVariants as heard
 use Rattle.head.specs.Hear.{gathered_of}
 use Rattle.line.specs.declared.calls.Line.{Line}
 use Rattle.demands.specs.Calls.{Calls, start, ◌▸◌, new_head}
@@ -30,6 +30,7 @@ use Rattle.demands.specs.Unseen.{offering, OfferUnseen}
 use Rattle.demands.specs.WrongOffers.{eager, Unoffered, SwitchesToo, StoredOnly, KeysDown, OffersOn, LateWord, NewNode, OfferKept, DropsAtNoise, ClearsError, WaitsMute, DropsAnothers, WrongOffers}
 use Rattle.demands.proofs.Computing.{computing}
 use Rattle.demands.proofs.Wrongs.{read20}
+use Rattle.head.specs.declared.refusal.Refusal.{Refusal}
 
 -- ---- adopts at the write: 5 is offered, and 31 is in force
 abbrev five : Calls
@@ -67,7 +68,7 @@ offered_taken = (record { well = refl; room = omega arith }, refl)
 abbrev noisy : Head
 noisy = with_ear offered (record { bytes = split 9 0x011FD2000000000000 ++ (0 ∷ []); count = 9; at = 0 })
 
-noisy_taken : Taken noisy space × ((gathered_of noisy.ear 0xCD 0).whole ≡ true) × (hit_of (gathered_of noisy.ear 0xCD 0).ten ≡ 1)
+noisy_taken : Taken noisy space × (is_some (gathered_of noisy.ear 0xCD 0).ten ≡ true) × (hit_of (ten_in (gathered_of noisy.ear 0xCD 0).ten) ≡ 1)
 unfolding computing
 noisy_taken = (record { well = refl; room = omega arith }, refl, refl)
 
@@ -75,7 +76,7 @@ noisy_taken = (record { well = refl; room = omega arith }, refl, refl)
 abbrev failing : Head
 failing = with_ear (with_faults offered (with_pending offered.faults 0x80)) noisy.ear
 
-failing_taken : Taken failing space × ((gathered_of failing.ear 0xCC 0).whole ≡ true) × Assigns failing (gathered_of failing.ear 0xCC 0).ten 1
+failing_taken : Taken failing space × (is_some (gathered_of failing.ear 0xCC 0).ten ≡ true) × Assigns failing (ten_in (gathered_of failing.ear 0xCC 0).ten) 1
 unfolding computing
 failing_taken = (record { well = refl; room = omega arith }, refl, record { sound = refl; commanded = refl; here = refl; assigns = refl })
 
@@ -90,9 +91,9 @@ two_fits : Fits two
 unfolding computing
 two_fits = record { fits = refl; places = refl }
 
-replies_in : Heard → ℕ
-replies_in (heard.Replies n) = n
-replies_in (heard.Refused why) = 2
+replies_in : Result ℕ Refusal → ℕ
+replies_in (Ok n) = n
+replies_in (Err why) = 2
 
 module _ (m : System) where
   unoffered_fails : Unoffered m → Demand2 m → ⊥
@@ -143,7 +144,7 @@ module _ (m : System) where
   drops_at_noise_fails : DropsAtNoise m → Demand2 m → ⊥
   unfolding computing
   drops_at_noise_fails e d =
-      let hit : hit_of (gathered_of noisy.ear 0xCD 0).ten ≢ 0 = λ q. omega (arith, sym noisy_taken.2 ∙ q) in
+      let hit : hit_of (ten_in (gathered_of noisy.ear 0xCD 0).ten) ≢ 0 = λ q. omega (arith, sym noisy_taken.2 ∙ q) in
       let a = d.every.counts noisy 0xCD 0 space noisy_taken.0 noisy_taken.1 hit in
       let z : ◌≡◌ {A = ℕ} 0 5 = ap (λ (s : Stored). s.offer) (rw (e noisy 0xCD 0 10 hit) at a.stored) in omega arith
 
@@ -157,7 +158,7 @@ module _ (m : System) where
   waits_mute_fails : WaitsMute m → OfferUnseen m → ⊥
   unfolding computing replies_in
   waits_mute_fails e u =
-      let q : heard.Replies 0 ≡ heard.Replies 1 = rw (e (offering read20 5) 0x3F 0 10, e read20 0x3F 0 10) at (u.heard read20 5 0x3F 0 10 refl) in
+      let q : ◌≡◌ {A = Result ℕ Refusal} (Ok 0) (Ok 1) = rw (e (offering read20 5) 0x3F 0 10, e read20 0x3F 0 10) at (u.heard read20 5 0x3F 0 10 refl) in
       let z : ◌≡◌ {A = ℕ} 0 1 = ap replies_in q in omega arith
 
   drops_anothers_fails : DropsAnothers m → Demand2 m → ⊥

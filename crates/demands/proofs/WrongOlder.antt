@@ -1,6 +1,7 @@
 -- The versions that are wrong where incremental measurement is retired fail: each by one call on a closed head or line, and the number, or the part of the head, that it
 -- should have given.
 -- Assumes nothing.
+use Rattle.std.specs.Prelude.{Ok, Err, Result, ⊤}
 use Prim.Native.Nat.{ℕ}
 use mathlib.Core.Path.{◌≡◌, refl, sym, ◌∙◌, ap}
 use mathlib.Core.Bool.{true≢false}
@@ -16,10 +17,6 @@ use Rattle.state.specs.Older.{brought_of}
 use Rattle.state.specs.With.{with_keys}
 use Rattle.effects.specs.Restart.{empty_ear, restarted_of}
 use Rattle.head.specs.declared.refusal.Refusal.{Refusal}
-use Rattle.head.specs.declared.calls.Answer.{Answer}
-use Rattle.head.specs.declared.calls.Answer.TheVariants.{Done, Refused}
-use Rattle.head.specs.declared.calls.Heard.{Heard}
-use Rattle.head.specs.declared.calls.Heard.TheVariants as heard
 use Rattle.head.specs.Calls as head
 use Rattle.head.specs.Outcome as alone
 use Rattle.line.specs.Calls as line
@@ -35,8 +32,8 @@ use Rattle.demands.proofs.Computing.{computing}
 use Rattle.demands.proofs.WrongSheets.{tell, refused_none}
 
 -- what a call that is done has for its number: none
-answered : (a : Answer) {n : Option ℕ} → a ≡ Done → of_answer a ≡ n → 0 ≡ tell n
-answered a e q = sym (ap (λ (x : Answer). tell (of_answer x)) e) ∙ ap tell q
+answered : (a : Result ⊤ Refusal) {n : Option ℕ} → a ≡ (Ok tt) → of_answer a ≡ n → 0 ≡ tell n
+answered a e q = sym (ap (λ (x : Result ⊤ Refusal). tell (of_answer x)) e) ∙ ap tell q
 
 module _ (m : System) where
   thawed_fails : Brings m busy (measuring thawed busy) → Demand2 m → ⊥
@@ -79,19 +76,19 @@ module _ (m : System) where
   unfolding computing
   touched_fails e d = let z : ◌≡◌ {A = ℕ} 0 50 = ap (λ (h : Head). nat_abs h.measurement.start) (rw e at ((d.brings left_over_of (rw e)).unchanged refl)) in omega arith
 
-  second_fails : (why : Refusal) → (m.on_line_of.ask bring pair 0).answer ≡ Refused why → Demand1 m → ⊥
+  second_fails : (why : Refusal) → (m.on_line_of.ask bring pair 0).answer ≡ Err why → Demand1 m → ⊥
   unfolding computing
   second_fails why e d = refused_none _ e (d.line_number (named 0 bring) pair)
 
-  refused_fails : (why : Refusal) → (m.on_head.ask alone.bring running).answer ≡ Refused why → Demand1 m → ⊥
+  refused_fails : (why : Refusal) → (m.on_head.ask alone.bring running).answer ≡ Err why → Demand1 m → ⊥
   unfolding computing
   refused_fails why e d = refused_none _ e (d.head_number (alone.asked alone.bring) running)
 
-  beyond_fails : (m.on_head.ask alone.bring (with35 2 new)).answer ≡ Done → Demand1 m → ⊥
+  beyond_fails : (m.on_head.ask alone.bring (with35 2 new)).answer ≡ (Ok tt) → Demand1 m → ⊥
   unfolding computing
   beyond_fails e d = let z : ◌≡◌ {A = ℕ} 0 20 = answered _ e (d.head_number (alone.asked alone.bring) (with35 2 new)) in omega arith
 
-  nobody_fails : (m.on_line_of.ask bring pair 3).answer ≡ Done → Demand1 m → ⊥
+  nobody_fails : (m.on_line_of.ask bring pair 3).answer ≡ (Ok tt) → Demand1 m → ⊥
   unfolding computing
   nobody_fails e d = let z : ◌≡◌ {A = ℕ} 0 3 = answered _ e (d.line_number (named 3 bring) pair) in omega arith
 
@@ -102,21 +99,21 @@ module _ (m : System) where
       let z : ◌≡◌ {A = ℕ} 0 1 = ap (λ (h : Head). get_or h.stored.values 29 0) (rw e at (t.others 1 (λ i. omega arith))) in
       omega arith
 
-  powered_fails : (m.on_head.ask alone.power armed).answer ≡ Done → Demand1 m → ⊥
+  powered_fails : (m.on_head.ask alone.power armed).answer ≡ (Ok tt) → Demand1 m → ⊥
   unfolding computing
   powered_fails e d = let z : ◌≡◌ {A = ℕ} 0 20 = answered _ e (d.head_number (alone.asked alone.power) armed) in omega arith
 
-  heard_fails : (n : ℕ) → (m.on_head.byte running 0 0 10).heard ≡ heard.Replies n → Demand1 m → ⊥
+  heard_fails : (n : ℕ) → (m.on_head.byte running 0 0 10).heard ≡ Ok n → Demand1 m → ⊥
   unfolding computing
   heard_fails n e d =
-      let z : ◌≡◌ {A = ℕ} 0 20 = sym (ap (λ (x : Heard). tell (of_heard x)) e) ∙ ap tell (d.head_number (alone.byte 0 0 (replicate 10 0)) running) in
+      let z : ◌≡◌ {A = ℕ} 0 20 = sym (ap (λ (x : Result ℕ Refusal). tell (of_heard x)) e) ∙ ap tell (d.head_number (alone.byte 0 0 (replicate 10 0)) running) in
       omega arith
 
-  ticked_fails : (m.on_line_of.tick pair 0).answer ≡ Done → Demand1 m → ⊥
+  ticked_fails : (m.on_line_of.tick pair 0).answer ≡ (Ok tt) → Demand1 m → ⊥
   unfolding computing
   ticked_fails e d = let z : ◌≡◌ {A = ℕ} 0 20 = answered _ e (d.line_number (tick 0) pair) in omega arith
 
-  sheet_refused_fails : (why : Refusal) → (m.on_head.ask (alone.load one) new).answer ≡ Refused why → Demand1 m → ⊥
+  sheet_refused_fails : (why : Refusal) → (m.on_head.ask (alone.load one) new).answer ≡ Err why → Demand1 m → ⊥
   unfolding computing
   sheet_refused_fails why e d = refused_none _ e (d.head_number (alone.asked (alone.load one)) new)
 
@@ -124,7 +121,7 @@ module _ (m : System) where
   unfolding computing
   sheet_stored_fails e d = let z : ◌≡◌ {A = ℕ} 1 0 = rw e at ((d.loads new one (rw e)).values.retired 0 (omega arith) refl) in omega arith
 
-  sheet_two_fails : (m.on_head.ask (alone.load two) new).answer ≡ Done → Demand1 m → ⊥
+  sheet_two_fails : (m.on_head.ask (alone.load two) new).answer ≡ (Ok tt) → Demand1 m → ⊥
   unfolding computing
   sheet_two_fails e d = let z : ◌≡◌ {A = ℕ} 0 13 = answered _ e (d.head_number (alone.asked (alone.load two)) new) in omega arith
 

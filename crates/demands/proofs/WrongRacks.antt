@@ -1,5 +1,6 @@
 -- The wrong racks fail: what the byte calls give, computed, is another answer.
 -- Assumes nothing.
+use Rattle.std.specs.Prelude.{Ok, Err, Result}
 use Prim.Native.Nat.{ℕ}
 use mathlib.Core.Path.{◌≡◌, refl, ap}
 use mathlib.Core.List.{List, [], ◌++◌}
@@ -9,8 +10,6 @@ use lib.ListN.{get_or, set, replicate}
 use Rattle.state.specs.declared.parts.Head.{Head}
 use Rattle.line.specs.declared.calls.Line.{Line}
 use Rattle.line.specs.Calls.{empty_of, head_at}
-use Rattle.rack.specs.declared.Answer.{Answer}
-use Rattle.rack.specs.declared.Answer.TheVariants.{Laid, Refused}
 use Rattle.demands.specs.Cases.{split}
 use Rattle.demands.specs.WrongSerials.{in_row}
 use Rattle.demands.specs.WrongStretches as gathered
@@ -18,6 +17,8 @@ use Rattle.demands.specs.Turns.{taken}
 use Rattle.demands.specs.WrongRacks.{with_keys, WrongRacks}
 use Rattle.demands.proofs.Computing.{computing}
 use Rattle.demands.proofs.Turns.{is_taken}
+use Rattle.head.specs.declared.refusal.Refusal.{Refusal}
+use Rattle.rack.specs.declared.Tally.{Tally}
 
 -- so many heads at 31, with no bytes gathered; a read of 20h at 31
 abbrev heads : ℕ → Line
@@ -37,13 +38,13 @@ abbrev number_in : Option ℕ → ℕ
 number_in none = 0
 number_in (some n) = n
 
-abbrev replies_in : Answer → ℕ
-replies_in (Laid counts) = counts.replies
-replies_in (Refused why) = 0
+abbrev replies_in : Result Tally Refusal → ℕ
+replies_in (Ok counts) = counts.replies
+replies_in (Err why) = 0
 
-abbrev collisions_in : Answer → ℕ
-collisions_in (Laid counts) = counts.collisions
-collisions_in (Refused why) = 0
+abbrev collisions_in : Result Tally Refusal → ℕ
+collisions_in (Ok counts) = counts.collisions
+collisions_in (Err why) = 0
 
 pub wrong_racks : WrongRacks
 unfolding computing taken

@@ -1,6 +1,7 @@
 -- The versions that are wrong in a serial number fail: each answer, or head, is another than the one that is asked for, by a head and a line that are
 -- computed.
 -- Assumes nothing.
+use Rattle.std.specs.Prelude.{Ok, Err, Result}
 use Prim.Native.Nat.{ℕ}
 use mathlib.Core.Path.{◌≡◌, refl, sym, ◌∙◌, ap}
 use mathlib.Core.Option.{Option, none, some}
@@ -8,8 +9,6 @@ use native.Mathlib.Omega.{arith}
 use lib.ListN.{replicate}
 use Rattle.effects.specs.Restart.{fresh_of}
 use Rattle.sheet.specs.Writing.{sheet_of}
-use Rattle.head.specs.declared.calls.Serial.{Serial}
-use Rattle.head.specs.declared.calls.Serial.TheVariants.{Number, Refused}
 use Rattle.head.specs.Outcome as alone
 use Rattle.line.specs.declared.calls.Line.{Line}
 use Rattle.demands.specs.Calls.{Call, new_head, tick}
@@ -20,6 +19,7 @@ use Rattle.demands.specs.Cases.{gathered}
 use Rattle.demands.specs.Serials.{serial_of}
 use Rattle.demands.specs.WrongSerials.{seven, offered, full, lone, around, WrongSerials}
 use Rattle.demands.proofs.Computing.{computing}
+use Rattle.head.specs.declared.refusal.Refusal.{Refusal}
 
 -- the numbers that the table gives
 abbrev number_in : Option ℕ → ℕ
@@ -45,12 +45,12 @@ module _ (m : System) (d : Demand1 m) (c : Call) (l : Line) (x y : Option ℕ) w
   untabled : refused_as m.on_line_of c l ≡ x → first (rows_for c l) ≡ y → number_in x ≡ number_in y
   untabled e t = ap number_in (sym e ∙ d.line_number c l ∙ t)
 
-told_as : Serial → ℕ
-told_as (Number n) = n
-told_as (Refused why) = 0
+told_as : Result ℕ Refusal → ℕ
+told_as (Ok n) = n
+told_as (Err why) = 0
 
 -- the last head of a full line
-told_last : (m : System) → Demand2 m → m.on_line_of.serial full 31 ≡ Number 32
+told_last : (m : System) → Demand2 m → m.on_line_of.serial full 31 ≡ Ok 32
 unfolding computing
 told_last m d = d.line_tells full 31 (record { fits = refl; places = refl }) (omega arith) ∙ d.tells (fresh_of 31 32) refl
 

@@ -1,5 +1,6 @@
 -- The versions that are wrong in a sheet fail: each by one call on a new head, and the number, or the part of the head, that it should have given.
 -- Assumes nothing.
+use Rattle.std.specs.Prelude.{Ok, Err, Result, ⊤}
 use Prim.Native.Nat.{ℕ}
 use mathlib.Core.Path.{◌≡◌, refl, sym, ◌∙◌, ap}
 use mathlib.Core.Bool.{Bool, true, cond}
@@ -14,8 +15,6 @@ use Rattle.effects.specs.Restart.{empty_ear, restarted_of, fresh_of}
 use Rattle.sheet.specs.declared.refusal.Refusal.TheVariants.{OutOfRow}
 use Rattle.head.specs.declared.refusal.Refusal.{Refusal}
 use Rattle.head.specs.declared.refusal.Refusal.TheVariants.{Sheet}
-use Rattle.head.specs.declared.calls.Answer.{Answer}
-use Rattle.head.specs.declared.calls.Answer.TheVariants.{Done, Refused}
 use Rattle.head.specs.declared.calls.Called.{Called}
 use Rattle.head.specs.Calls as head
 use Rattle.head.specs.Outcome as alone
@@ -31,9 +30,9 @@ tell none = 0
 tell (some n) = n
 
 -- a refusal has one
-pub refused_none : {why : Refusal} (a : Answer) → a ≡ Refused why → of_answer a ≡ none → ⊥
-refused_none Done e q = let z : ◌≡◌ {A = ℕ} 0 1 = cc in omega arith
-refused_none (Refused w) e q = let z : ◌≡◌ {A = ℕ} 0 1 = cc in omega arith
+pub refused_none : {why : Refusal} (a : Result ⊤ Refusal) → a ≡ Err why → of_answer a ≡ none → ⊥
+refused_none (Ok tt) e q = let z : ◌≡◌ {A = ℕ} 0 1 = cc in omega arith
+refused_none (Err w) e q = let z : ◌≡◌ {A = ℕ} 0 1 = cc in omega arith
 
 -- what is refused, or not, and the number that the table gives
 module _ (m : System) (d : Demand1 m) where
@@ -41,7 +40,7 @@ module _ (m : System) (d : Demand1 m) where
   wanted s h = ap tell (d.head_number (alone.asked (alone.load s)) h)
 
   taken : (s : List ℕ) (h : Head) → Takes m h s → 0 ≡ tell (first (rows_alone (alone.asked (alone.load s)) h))
-  taken s h e = sym (ap (λ (a : Answer). tell (of_answer a)) e) ∙ wanted s h
+  taken s h e = sym (ap (λ (a : Result ⊤ Refusal). tell (of_answer a)) e) ∙ wanted s h
 
 module _ (m : System) where
   later_fails : Takes m new later → Demand1 m → ⊥
@@ -67,7 +66,7 @@ module _ (m : System) where
   value_first_fails : Refuses m new both (Sheet OutOfRow) → Demand1 m → ⊥
   unfolding computing
   value_first_fails e d =
-      let z : ◌≡◌ {A = ℕ} 13 12 = sym (ap (λ (a : Answer). tell (of_answer a)) e) ∙ wanted m d both new in omega arith
+      let z : ◌≡◌ {A = ℕ} 13 12 = sym (ap (λ (a : Result ⊤ Refusal). tell (of_answer a)) e) ∙ wanted m d both new in omega arith
 
   locked_fails : (why : Refusal) → Refuses m locked nine why → Demand1 m → ⊥
   unfolding computing
@@ -99,28 +98,28 @@ module _ (m : System) where
   unfolding computing
   idle_fails e d = let z : ◌≡◌ {A = ℕ} 5 9 = rw e at ((d.loads new nine (rw e)).values.rows 0 20 (omega arith) (omega arith) refl (λ q. omega arith)) in omega arith
 
-  short_fails : m.on_head.save new 273 ≡ Done → Demand1 m → ⊥
+  short_fails : m.on_head.save new 273 ≡ (Ok tt) → Demand1 m → ⊥
   unfolding computing
-  short_fails e d = let z : ◌≡◌ {A = ℕ} 0 14 = sym (ap (λ (a : Answer). tell (of_answer a)) e) ∙ ap tell (d.head_save new 273) in omega arith
+  short_fails e d = let z : ◌≡◌ {A = ℕ} 0 14 = sym (ap (λ (a : Result ⊤ Refusal). tell (of_answer a)) e) ∙ ap tell (d.head_save new 273) in omega arith
 
-  long_fails : (why : Refusal) → m.on_head.save new 274 ≡ Refused why → Demand1 m → ⊥
+  long_fails : (why : Refusal) → m.on_head.save new 274 ≡ Err why → Demand1 m → ⊥
   unfolding computing
   long_fails why e d = refused_none _ e (d.head_save new 274)
 
-  overrun_fails : m.on_head.save new 275 ≡ Done → overrun m → Sheets m → ⊥
+  overrun_fails : m.on_head.save new 275 ≡ (Ok tt) → overrun m → Sheets m → ⊥
   unfolding computing
   overrun_fails e o d =
       let z : ◌≡◌ {A = ℕ} 0 1 = ap (λ (x : List ℕ). get_or x 0 0) (rw o at (d.saves new (replicate 275 1) refl e).rest) in omega arith
 
-  low_first_fails : m.on_head.save new 274 ≡ Done → low_first m → Sheets m → ⊥
+  low_first_fails : m.on_head.save new 274 ≡ (Ok tt) → low_first m → Sheets m → ⊥
   unfolding computing
   low_first_fails e o d = let z : ◌≡◌ {A = ℕ} 31 0 = rw o at ((d.saves new (replicate 274 1) refl e).bodies 0 (omega arith)).0 in omega arith
 
-  few_rows_fails : m.on_head.save new 274 ≡ Done → few_rows m → Sheets m → ⊥
+  few_rows_fails : m.on_head.save new 274 ≡ (Ok tt) → few_rows m → Sheets m → ⊥
   unfolding computing
   few_rows_fails e o d = let z : ◌≡◌ {A = ℕ} 38 39 = rw o at (d.saves new (replicate 274 1) refl e).rows in omega arith
 
-  first_saved_fails : m.on_head.save new 274 ≡ Done → m.on_head.save (fresh_of 12 1) 274 ≡ Done → first_saved m → Sheets m → ⊥
+  first_saved_fails : m.on_head.save new 274 ≡ (Ok tt) → m.on_head.save (fresh_of 12 1) 274 ≡ (Ok tt) → first_saved m → Sheets m → ⊥
   unfolding computing
   first_saved_fails e f o d =
       let space = replicate {A = ℕ} 274 1 in

@@ -1,20 +1,20 @@
 -- The wrong stretches fail: what the byte calls give, computed, is another answer.
 -- Assumes nothing.
+use Rattle.std.specs.Prelude.{Ok, Err, Result}
 use Prim.Native.Nat.{ℕ}
 use mathlib.Core.Path.{◌≡◌, refl, sym, ◌∙◌, ap}
 use mathlib.Core.List.{List, [], ◌∷◌}
 use native.Mathlib.Omega.{arith}
 use lib.ListN.{get_or, replicate}
-use Rattle.head.specs.declared.calls.Heard.{Heard}
-use Rattle.head.specs.declared.calls.Heard.TheVariants as heard
 use Rattle.line.specs.declared.calls.Stretch.{Stretch}
 use Rattle.line.specs.Calls.{byte_of}
 use Rattle.demands.specs.WrongStretches.{three, one, WrongStretches}
 use Rattle.demands.proofs.Computing.{computing}
+use Rattle.head.specs.declared.refusal.Refusal.{Refusal}
 
-abbrev replies : Heard → ℕ
-replies (heard.Replies n) = n
-replies (heard.Refused why) = 0
+abbrev replies : Result ℕ Refusal → ℕ
+replies (Ok n) = n
+replies (Err why) = 0
 
 -- the first of ten bytes of space that held 7
 abbrev first_of : List ℕ → ℕ

@@ -1,15 +1,15 @@
 -- The versions that are wrong in the status word fail: each by a head at 31 that has gathered nine bytes of a telegram, and the tenth.
 -- Assumes nothing.
+use Rattle.std.specs.Prelude.{Ok, is_some}
 use Prim.Native.Nat.{ℕ}
 use mathlib.Core.Path.{◌≡◌, refl, sym, ◌∙◌}
 use mathlib.Core.Bool.{true}
 use mathlib.Core.Logic.{◌≢◌}
 use native.Mathlib.Omega.{arith}
 use lib.ListN.{take}
-use Rattle.wire.specs.Telegram.{fields_of}
+use Rattle.wire.specs.Telegram.{fields_of, ten_in}
 use Rattle.state.specs.declared.parts.Head.{Head}
 use Rattle.state.specs.Wellformed.{wellformed_of}
-use Rattle.head.specs.declared.calls.Heard.TheVariants as heard
 use Rattle.head.specs.Hear.{gathered_of}
 use Rattle.head.specs.Calls as head
 use Rattle.demands.specs.Cases.{heard_ten, gathered}
@@ -22,10 +22,10 @@ use Rattle.demands.proofs.Wrongs.{new, space}
 abbrev pub Told : Wording → Head → ℕ → ℕ → ℕ → Type 0
 Told f h b wrong right =
     (wellformed_of h ≡ true)
-    × ((gathered_of h.ear b 0).whole ≡ true)
-    × ((head.byte_of h b 0 10).heard ≡ heard.Replies 1)
+    × (is_some (gathered_of h.ear b 0).ten ≡ true)
+    × ((head.byte_of h b 0 10).heard ≡ Ok 1)
     × ((fields_of (take 10 (reworded f h b 0 space))).word ≡ wrong)
-    × (word_told (fields_of (gathered_of h.ear b 0).ten) (fields_of (take 10 (reworded f h b 0 space))) h (head.byte_of h b 0 10).head ≡ right)
+    × (word_told (fields_of (ten_in (gathered_of h.ear b 0).ten)) (fields_of (take 10 (reworded f h b 0 space))) h (head.byte_of h b 0 10).head ≡ right)
 
 pub fails : (f : Wording) (h : Head) (b wrong right : ℕ) → wrong ≢ right → Told f h b wrong right → Fails f
 fails f h b wrong right differ (well, ends, replies, wrong-is, right_is) m s d =

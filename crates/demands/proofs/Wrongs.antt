@@ -1,5 +1,6 @@
 -- The wrong systems fail: demands 1 and 2 each by a head at 31, alone or on a line, and a byte or a call; demand 3 by the runs of Echo.
 -- Assumes nothing.
+use Rattle.std.specs.Prelude.{Ok, is_some}
 use Prim.Native.Nat.{ℕ, ◌%◌}
 use mathlib.Core.Path.{◌≡◌, refl, sym, ◌∙◌, ap}
 use mathlib.Core.Bool.{true, false}
@@ -8,6 +9,7 @@ use mathlib.Core.Option.{Option, some}
 use native.Mathlib.Omega.{arith}
 use lib.IntN.{pos, nat_abs}
 use lib.ListN.{replicate, get_or, set}
+use Rattle.wire.specs.Telegram.{ten_in}
 use Rattle.judge.specs.declared.judged.Judged.{Judged}
 use Rattle.judge.specs.Judged.{judged_of}
 use Rattle.state.specs.declared.parts.Head.{Head}
@@ -20,7 +22,6 @@ use Rattle.reply.specs.Reply.{reply_of}
 use Rattle.head.specs.Hear.{gathered_of, standing_of, told_of}
 use Rattle.head.specs.Calls.{factory_of, byte_of, byte_space_of}
 use Rattle.head.specs.declared.refusal.Refusal.{Refusal}
-use Rattle.head.specs.declared.calls.Heard.TheVariants as heard
 use Rattle.head.specs.declared.calls.Fed.{Fed}
 use Rattle.line.specs.declared.calls.Line.{Line}
 use Rattle.line.specs.Calls as line
@@ -65,7 +66,7 @@ new_taken : Taken new space
 unfolding computing
 new_taken = record { well = refl; room = omega arith }
 
-new_gathers : ((gathered_of new.ear 0 0).whole ≡ false) × (new.ear.count ≡ 0) × ((gathered_of new.ear 0 0).ear.count ≡ 1)
+new_gathers : (is_some (gathered_of new.ear 0 0).ten ≡ false) × (new.ear.count ≡ 0) × ((gathered_of new.ear 0 0).ear.count ≡ 1)
 unfolding computing
 new_gathers = (refl, refl, refl)
 
@@ -81,14 +82,14 @@ unchanging_fails d =
 
 -- ---- a telegram ended by a byte: it is whole, and answered so
 abbrev judged : Head → ℕ → Judged
-judged h b = judged_of (gathered_of h.ear b 0).ten (standing_of h)
+judged h b = judged_of (ten_in (gathered_of h.ear b 0).ten) (standing_of h)
 
 record Ends (h : Head) (b reply : ℕ) : Type 0 where
   taken : Taken h space
-  ends : (gathered_of h.ear b 0).whole ≡ true
-  answered : (reply_of (judged h b) h (told_of (judged h b) h 0)).replied ≡ true
-  reply_is : (reply_of (judged h b) h (told_of (judged h b) h 0)).reply ≡ split 10 reply
-  heard_is : (byte_of h b 0 10).heard ≡ heard.Replies 1
+  ends : is_some (gathered_of h.ear b 0).ten ≡ true
+  answered : is_some (reply_of (judged h b) h (told_of (judged h b) h 0)) ≡ true
+  reply_is : ten_in (reply_of (judged h b) h (told_of (judged h b) h 0)) ≡ split 10 reply
+  heard_is : (byte_of h b 0 10).heard ≡ Ok 1
   laid_is : byte_space_of h b 0 space ≡ split 10 reply
 
 -- reads of 20h, 04h, 80h and 96h
@@ -164,7 +165,7 @@ zeroing_fails d =
     let t = reads.reads20 in
     let o : Only product.on_head lone 0x3F 0 space 0 = record { there = omega arith; speaks = t.heard_is; others = λ j p n. absurd (n (omega arith)) } in
     let e = d.line_answers_lem lone 0x3F 0 space lone_fits (omega arith) 0 o in
-    let s : respoken (λ r. replicate 10 0) (heard.Replies 1) (line.byte_space_of lone 0x3F 0 space) ≡ split 10 0x001F200000000000053A = rw e.0 at (e.1 ∙ t.laid_is) in
+    let s : respoken (λ r. replicate 10 0) (Ok 1) (line.byte_space_of lone 0x3F 0 space) ≡ split 10 0x001F200000000000053A = rw e.0 at (e.1 ∙ t.laid_is) in
     let z : ◌≡◌ {A = ℕ} 0 31 = ap (λ (l : List ℕ). get_or l 1 0) s in
     omega arith
 

@@ -1,14 +1,12 @@
 -- Auto-ID at the machine (document 02, request (ii); section 6.8 of the manual): what a telegram of D2h is met with, at any head; and after any calls
 -- on a line grown from none, what a key state does that adopts the number offered, by the account that looks back over the calls (Past).
 -- Assumes nothing.
-use Rattle.std.specs.Prelude.{ℕ, ◌<◌, ◌≤◌, ◌≡◌, Bool, true, false, cond, ◌≢◌, ◌⊎◌, List, [], ◌∷◌, eqb, length, take, replicate}
+use Rattle.std.specs.Prelude.{ℕ, ◌<◌, ◌≤◌, ◌≡◌, Bool, true, false, cond, ◌≢◌, ◌⊎◌, List, [], ◌∷◌, eqb, length, take, replicate, Ok, Result, is_some}
 use Rattle.wire.specs.Check.{hit_of}
-use Rattle.wire.specs.Telegram.{fields_of}
+use Rattle.wire.specs.Telegram.{fields_of, ten_in}
 use Rattle.judge.specs.declared.deed.Deed.TheVariants.{Restart}
 use Rattle.judge.specs.Judged.{judged_of}
 use Rattle.state.specs.declared.parts.Head.{Head}
-use Rattle.head.specs.declared.calls.Heard.{Heard}
-use Rattle.head.specs.declared.calls.Heard.TheVariants as heard
 use Rattle.head.specs.Hear.{standing_of, gathered_of}
 use Rattle.demands.specs.Calls.{Calls, start, ◌▸◌, new_head, named, power, keys, hearing, Bytes}
 use Rattle.demands.specs.Past.{adopts, count, entry, value, in_force}
@@ -17,6 +15,7 @@ use Rattle.demands.specs.Alone.{Taken, Announced}
 use Rattle.demands.specs.Every.{Passed}
 use Rattle.demands.specs.Demand3.{ReadsBack}
 use Rattle.demands.specs.Cases.{split}
+use Rattle.head.specs.declared.refusal.Refusal.{Refusal}
 
 -- ---- a telegram of D2h, sound, for this head and of this command
 pub record Assigns (h : Head) (ten : List ℕ) (command : ℕ) : Type 0 where
@@ -26,41 +25,41 @@ pub record Assigns (h : Head) (ten : List ℕ) (command : ℕ) : Type 0 where
   pub assigns : (fields_of ten).parameter ≡ 0xD2
 
 -- the reply is an error with this code
-abbrev pub Complains : Heard → List ℕ → ℕ → Type 0
-Complains x space code = (x ≡ heard.Replies 1) × ((fields_of (take 10 space)).parameter ≡ 0xFD) × ((fields_of (take 10 space)).value ≡ code)
+abbrev pub Complains : Result ℕ Refusal → List ℕ → ℕ → Type 0
+Complains x space code = (x ≡ Ok 1) × ((fields_of (take 10 space)).parameter ≡ 0xFD) × ((fields_of (take 10 space)).value ≡ code)
 
 pub record Offers (m : System) : Type 0 where
   -- a write of D2h, 1 to 31, to a head whose number in force is 31 is remembered, without a reply; else it is a sound telegram like any other
-  pub remembers : (h : Head) (b t : ℕ) (space : List ℕ) → Taken h space → (gathered_of h.ear b t).whole ≡ true
-      → let ten = (gathered_of h.ear b t).ten in Assigns h ten 1 → h.stored.number ≡ 31 → 1 ≤ (fields_of ten).value → (fields_of ten).value ≤ 31
-      → ((m.on_head.byte h b t (length space)).heard ≡ heard.Replies 0)
+  pub remembers : (h : Head) (b t : ℕ) (space : List ℕ) → Taken h space → is_some (gathered_of h.ear b t).ten ≡ true
+      → let ten = ten_in (gathered_of h.ear b t).ten in Assigns h ten 1 → h.stored.number ≡ 31 → 1 ≤ (fields_of ten).value → (fields_of ten).value ≤ 31
+      → ((m.on_head.byte h b t (length space)).heard ≡ Ok 0)
       × (m.on_head.space h b t space ≡ space)
       × Passed h (m.on_head.byte h b t (length space)).head t (fields_of ten).value
   -- outside the range it is refused with 01 82 or 02 82, and drops the offer; what else it leaves as it was, `errs` of Every says
-  pub drops : (h : Head) (b t : ℕ) (space : List ℕ) → Taken h space → (gathered_of h.ear b t).whole ≡ true
-      → let ten = (gathered_of h.ear b t).ten in Assigns h ten 1 → h.stored.number ≡ 31 → ((fields_of ten).value ≡ 0) ⊎ (31 < (fields_of ten).value)
+  pub drops : (h : Head) (b t : ℕ) (space : List ℕ) → Taken h space → is_some (gathered_of h.ear b t).ten ≡ true
+      → let ten = ten_in (gathered_of h.ear b t).ten in Assigns h ten 1 → h.stored.number ≡ 31 → ((fields_of ten).value ≡ 0) ⊎ (31 < (fields_of ten).value)
       → Complains (m.on_head.byte h b t (length space)).heard (m.on_head.space h b t space) (cond (eqb (fields_of ten).value 0) 0x0182 0x0282)
       × ((m.on_head.byte h b t (length space)).head.stored.offer ≡ 0)
   -- where the number in force is not 31 it is refused with 00 85, whatever the value; a read with 02 84
-  pub elsewhere : (h : Head) (b t : ℕ) (space : List ℕ) → Taken h space → (gathered_of h.ear b t).whole ≡ true
-      → Assigns h (gathered_of h.ear b t).ten 1 → h.stored.number ≢ 31
+  pub elsewhere : (h : Head) (b t : ℕ) (space : List ℕ) → Taken h space → is_some (gathered_of h.ear b t).ten ≡ true
+      → Assigns h (ten_in (gathered_of h.ear b t).ten) 1 → h.stored.number ≢ 31
       → Complains (m.on_head.byte h b t (length space)).heard (m.on_head.space h b t space) 0x0085
-  pub unread : (h : Head) (b t : ℕ) (space : List ℕ) → Taken h space → (gathered_of h.ear b t).whole ≡ true
-      → Assigns h (gathered_of h.ear b t).ten 0
+  pub unread : (h : Head) (b t : ℕ) (space : List ℕ) → Taken h space → is_some (gathered_of h.ear b t).ten ≡ true
+      → Assigns h (ten_in (gathered_of h.ear b t).ten) 0
       → Complains (m.on_head.byte h b t (length space)).heard (m.on_head.space h b t space) 0x0284
   -- a command above 02h with 00 84
-  pub above : (h : Head) (b t : ℕ) (space : List ℕ) → Taken h space → (gathered_of h.ear b t).whole ≡ true
-      → (command : ℕ) → 2 < command → Assigns h (gathered_of h.ear b t).ten command
+  pub above : (h : Head) (b t : ℕ) (space : List ℕ) → Taken h space → is_some (gathered_of h.ear b t).ten ≡ true
+      → (command : ℕ) → 2 < command → Assigns h (ten_in (gathered_of h.ear b t).ten) command
       → Complains (m.on_head.byte h b t (length space)).heard (m.on_head.space h b t space) 0x0084
   -- a broadcast is silent, and does nothing
-  pub uncast : (h : Head) (b t : ℕ) (space : List ℕ) → Taken h space → (gathered_of h.ear b t).whole ≡ true
-      → let ten = (gathered_of h.ear b t).ten in hit_of ten ≡ 0 → (fields_of ten).command ≡ 2 → (fields_of ten).parameter ≡ 0xD2
-      → ((m.on_head.byte h b t (length space)).heard ≡ heard.Replies 0)
+  pub uncast : (h : Head) (b t : ℕ) (space : List ℕ) → Taken h space → is_some (gathered_of h.ear b t).ten ≡ true
+      → let ten = ten_in (gathered_of h.ear b t).ten in hit_of ten ≡ 0 → (fields_of ten).command ≡ 2 → (fields_of ten).parameter ≡ 0xD2
+      → ((m.on_head.byte h b t (length space)).heard ≡ Ok 0)
       × (m.on_head.space h b t space ≡ space)
       × Passed h (m.on_head.byte h b t (length space)).head t h.stored.offer
   -- every telegram but a sound write of D2h at this head, whose number in force is 31, leaves the offer as it is, unless it restarts the head
-  pub leaves : (h : Head) (b t : ℕ) (space : List ℕ) → Taken h space → (gathered_of h.ear b t).whole ≡ true
-      → let ten = (gathered_of h.ear b t).ten in (Assigns h ten 1 → h.stored.number ≢ 31) → (judged_of ten (standing_of h)).deed ≢ Restart
+  pub leaves : (h : Head) (b t : ℕ) (space : List ℕ) → Taken h space → is_some (gathered_of h.ear b t).ten ≡ true
+      → let ten = ten_in (gathered_of h.ear b t).ten in (Assigns h ten 1 → h.stored.number ≢ 31) → (judged_of ten (standing_of h)).deed ≢ Restart
       → (m.on_head.byte h b t (length space)).head.stored.offer ≡ h.stored.offer
 
 -- ---- after the calls cs, the key state s of head k, with n bytes lent, is taken; and it adopts: up is newly pressed, and a number is offered
@@ -91,13 +90,13 @@ pub record AutoId (m : System) : Type 0 where
   -- it is told in one reply, which passes its check
   pub told : (cs : Calls) (k s : ℕ) (space : List ℕ) → TakenAt cs k s (length space) → adopts_at cs k s ≡ true
       → let l = runs (machine_of m) cs in
-      ((m.on_line_of.keys l k s (length space)).heard ≡ heard.Replies 1)
+      ((m.on_line_of.keys l k s (length space)).heard ≡ Ok 1)
       × Announced (head_after (machine_of m) cs k) space (m.on_line_of.key_space l k s space)
       × ((head_after (machine_of m) cs k).stored.offer ≡ offer_at cs k)
   -- a key state that adopts no number draws no reply, and stores nothing
   pub silent : (cs : Calls) (k s : ℕ) (space : List ℕ) → TakenAt cs k s (length space) → adopts_at cs k s ≡ false
       → let l = runs (machine_of m) cs in
-      ((m.on_line_of.keys l k s (length space)).heard ≡ heard.Replies 0)
+      ((m.on_line_of.keys l k s (length space)).heard ≡ Ok 0)
       × (m.on_line_of.key_space l k s space ≡ space)
       × ((head_after (machine_of m) (cs ▸ keys k s (length space)) k).stored ≡ (head_after (machine_of m) cs k).stored)
   -- whatever it does, it changes no other head: two heads at 31 both remember, and only the one whose key is pressed adopts
@@ -126,17 +125,17 @@ both = six ▸ keys 1 4 10
 
 pub record Story (m : System) : Type 0 where
   -- neither write is answered; both heads remember the first, the second reaches the one that is still at 31
-  pub no_reply_lem : (m.on_line_of.byte (runs (machine_of m) (begin two 0x011FD2000000000005)) 0xC9 0 10).heard ≡ heard.Replies 0
+  pub no_reply_lem : (m.on_line_of.byte (runs (machine_of m) (begin two 0x011FD2000000000005)) 0xC9 0 10).heard ≡ Ok 0
   pub remembered : (offer_at five 0 ≡ 5) × (offer_at five 1 ≡ 5)
   -- each adoption is told by node 31, with the new number
-  pub first : ((m.on_line_of.keys (runs (machine_of m) five) 0 4 10).heard ≡ heard.Replies 1)
+  pub first : ((m.on_line_of.keys (runs (machine_of m) five) 0 4 10).heard ≡ Ok 1)
       × (m.on_line_of.key_space (runs (machine_of m) five) 0 4 (replicate 10 0) ≡ split 10 0x011FD2000000000005C9)
-  pub second : ((m.on_line_of.keys (runs (machine_of m) six) 1 4 10).heard ≡ heard.Replies 1)
+  pub second : ((m.on_line_of.keys (runs (machine_of m) six) 1 4 10).heard ≡ Ok 1)
       × (m.on_line_of.key_space (runs (machine_of m) six) 1 4 (replicate 10 0) ≡ split 10 0x011FD2000000000006CA)
   -- the reads of 00h at 5, at 6 and at 31: 5 and 6 answer, 31 nobody
-  pub at_five : (m.on_line_of.byte (runs (machine_of m) (begin both 0x000500000000000000)) 0x05 0 10).heard ≡ heard.Replies 1
-  pub at_six : (m.on_line_of.byte (runs (machine_of m) (begin both 0x000600000000000000)) 0x06 0 10).heard ≡ heard.Replies 1
-  pub at_none : (m.on_line_of.byte (runs (machine_of m) (begin both 0x001F00000000000000)) 0x1F 0 10).heard ≡ heard.Replies 0
+  pub at_five : (m.on_line_of.byte (runs (machine_of m) (begin both 0x000500000000000000)) 0x05 0 10).heard ≡ Ok 1
+  pub at_six : (m.on_line_of.byte (runs (machine_of m) (begin both 0x000600000000000000)) 0x06 0 10).heard ≡ Ok 1
+  pub at_none : (m.on_line_of.byte (runs (machine_of m) (begin both 0x001F00000000000000)) 0x1F 0 10).heard ≡ Ok 0
   pub reads : (m.on_line_of.space (runs (machine_of m) (begin both 0x000500000000000000)) 0x05 0 (replicate 10 0) ≡ split 10 0x00050000000000000500)
       × (m.on_line_of.space (runs (machine_of m) (begin both 0x000600000000000000)) 0x06 0 (replicate 10 0) ≡ split 10 0x00060000000000000600)
 

@@ -2,7 +2,7 @@
 -- the table gives it, and changes no head, no line and no byte of the lent reply space. (That no call does harm is what the checker proves of
 -- every function, for every input: no public function has a `requires`.)
 -- Assumes nothing.
-use Rattle.std.specs.Prelude.{ℕ, ◌-◌, ◌%◌, ◌≡◌, Bool, cond, not, ◌&&◌, ◌||◌, List, [], ◌∷◌, leb, ltb, eqb, pos, length}
+use Rattle.std.specs.Prelude.{ℕ, ◌-◌, ◌%◌, ◌≡◌, Bool, cond, not, ◌&&◌, ◌||◌, List, [], ◌∷◌, leb, ltb, eqb, pos, length, Ok, Err, Result, ⊤}
 use Rattle.std.proofs.Math.Option.{Option, none, some}
 use Rattle.std.specs.Int.Signed.{le_z}
 use Rattle.signed.specs.Number.{minus}
@@ -10,26 +10,18 @@ use Rattle.state.specs.declared.parts.Head.{Head}
 use Rattle.state.specs.Settings.{value_at, node_place}
 use Rattle.state.specs.Wellformed.{wellformed_of}
 use Rattle.rows.specs.Among.{among}
-use Rattle.head.specs.declared.calls.Answer.{Answer}
-use Rattle.head.specs.declared.calls.Answer.TheVariants as answer
-use Rattle.head.specs.declared.calls.Heard.{Heard}
-use Rattle.head.specs.declared.calls.Heard.TheVariants as heard
-use Rattle.head.specs.declared.calls.Hit.{Hit}
-use Rattle.head.specs.declared.calls.Hit.TheVariants.{Bits, Refused}
-use Rattle.head.specs.declared.calls.Serial.{Serial}
-use Rattle.head.specs.declared.calls.Serial.TheVariants as serial
 use Rattle.head.specs.Refusals.{refusal_of}
 use Rattle.head.specs.Calls.{factory_of}
 use Rattle.head.specs.Outcome as alone
 use Rattle.line.specs.declared.calls.Line.{Line}
 use Rattle.line.specs.Calls.{serials_at, fits_of}
-use Rattle.rack.specs.declared.Answer as rack
-use Rattle.rack.specs.declared.Answer.TheVariants as racked
 use Rattle.sheet.specs.Format.{well_formed_of}
 use Rattle.demands.specs.Calls.{Call, new_head, byte, tick, named, keys, dropped}
 use Rattle.demands.specs.Past.{all_stored, all_right}
 use Rattle.demands.specs.Twenty.{takes_head, takes_line, Twenty}
 use Rattle.demands.specs.Run.{OnHead, OnLine, System, alone_of, after}
+use Rattle.head.specs.declared.refusal.Refusal.{Refusal}
+use Rattle.rack.specs.declared.Tally.{Tally}
 
 -- ---- the table of document 01, "The line, and calls refused": a number, and whether its clause holds
 pub record Row : Type 0 where
@@ -99,25 +91,25 @@ rows_alone (alone.keys s space) h = head_rows h (keys_rows s (length space))
 rows_alone (alone.asked a) h = row 20 (not (takes_head a h)) ∷ own_rows a
 
 -- ---- the number that a call returns
-abbrev pub of_answer : Answer → Option ℕ
-of_answer answer.Done = none
-of_answer (answer.Refused why) = some (refusal_of why)
+abbrev pub of_answer : Result ⊤ Refusal → Option ℕ
+of_answer (Ok tt) = none
+of_answer (Err why) = some (refusal_of why)
 
-abbrev pub of_heard : Heard → Option ℕ
-of_heard (heard.Replies n) = none
-of_heard (heard.Refused why) = some (refusal_of why)
+abbrev pub of_heard : Result ℕ Refusal → Option ℕ
+of_heard (Ok n) = none
+of_heard (Err why) = some (refusal_of why)
 
-abbrev pub of_hit : Hit → Option ℕ
-of_hit (Bits x) = none
-of_hit (Refused why) = some (refusal_of why)
+abbrev pub of_hit : Result ℕ Refusal → Option ℕ
+of_hit (Ok x) = none
+of_hit (Err why) = some (refusal_of why)
 
-abbrev pub of_serial : Serial → Option ℕ
-of_serial (serial.Number n) = none
-of_serial (serial.Refused why) = some (refusal_of why)
+abbrev pub of_serial : Result ℕ Refusal → Option ℕ
+of_serial (Ok n) = none
+of_serial (Err why) = some (refusal_of why)
 
-abbrev pub of_rack : rack.Answer → Option ℕ
-of_rack (racked.Laid counts) = none
-of_rack (racked.Refused why) = some (refusal_of why)
+abbrev pub of_rack : Result Tally Refusal → Option ℕ
+of_rack (Ok counts) = none
+of_rack (Err why) = some (refusal_of why)
 
 abbrev pub refused_as : OnLine → Call → Line → Option ℕ
 refused_as m (new_head node serial) l = of_answer (m.grow l node serial).answer

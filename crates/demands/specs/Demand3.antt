@@ -4,12 +4,11 @@
 -- call draws two replies, and one that ends no broadcast changes the stored parameters of one head at most. It is asked of any machine that
 -- takes the calls (Run), so that a wrong one can be shown to fail it.
 -- Assumes nothing.
-use Rattle.std.specs.Prelude.{ℕ, suc, ◌<◌, ◌≤◌, ◌≡◌, true, ◌≢◌, ◌⊎◌, List, [], ◌∷◌, length, get_or}
+use Rattle.std.specs.Prelude.{ℕ, suc, ◌<◌, ◌≤◌, ◌≡◌, true, ◌≢◌, ◌⊎◌, List, [], ◌∷◌, length, get_or, Ok}
 use Rattle.std.proofs.Math.Option.{Option, none, some}
 use Rattle.wire.specs.Check.{hit_of}
 use Rattle.wire.specs.Telegram.{fields_of}
 use Rattle.rows.specs.Table.{row_of, address}
-use Rattle.head.specs.declared.calls.Heard.TheVariants as heard
 use Rattle.demands.specs.Calls.{Call, Calls, ◌▸◌, byte, named, power, Bytes}
 use Rattle.demands.specs.Past.{since, gather, change, count, serials, entry, value, in_force}
 use Rattle.demands.specs.Run.{Machine, runs, head_after, answers, read_of}
@@ -68,6 +67,6 @@ pub record Demand3 (m : Machine) : Type 0 where
   -- for bytes of eight bits, as the type of the byte call has them
   pub holds : (cs : Calls) (k r : ℕ) → Bytes cs → k < count cs → r < 39 → Holds m cs k r
   -- the number of replies that a byte call returns
-  pub one_reply : (cs : Calls) (b t s n : ℕ) → Differ cs → m.heard (runs m cs) b t s ≡ heard.Replies n → n ≤ 1
+  pub one_reply : (cs : Calls) (b t s n : ℕ) → Differ cs → m.heard (runs m cs) b t s ≡ Ok n → n ≤ 1
   pub one_change : (cs : Calls) (b t s : ℕ) → Differ cs → NoBroadcast cs b t s
       → (i j : ℕ) → i < count cs → j < count cs → i ≢ j → Unchanged m cs b t s i ⊎ Unchanged m cs b t s j

@@ -4,8 +4,8 @@
 -- account (Past); that a set point is four characters, one a data byte; and, in numbers, what those sentences lean on: the bits of a word, the bytes of a control
 -- word and of a telegram, the values of 28h, and that the position does not look at it.
 -- Assumes nothing.
-use Rattle.std.specs.Prelude.{ℕ, ◌+◌, ◌*◌, ◌/◌, ◌%◌, ◌^◌, ◌<◌, ◌≤◌, ◌≡◌, Bool, true, false, ◌≢◌, ◌⊎◌, List, eqb, length, take, get_or, set}
-use Rattle.wire.specs.Telegram.{fields_of}
+use Rattle.std.specs.Prelude.{ℕ, ◌+◌, ◌*◌, ◌/◌, ◌%◌, ◌^◌, ◌<◌, ◌≤◌, ◌≡◌, Bool, true, false, ◌≢◌, ◌⊎◌, List, eqb, length, take, get_or, set, is_some}
+use Rattle.wire.specs.Telegram.{fields_of, ten_in}
 use Rattle.wire.specs.Word.{byte0, byte1, byte2, byte3}
 use Rattle.state.specs.declared.parts.Head.{Head}
 use Rattle.state.specs.declared.parts.Measurement.{Measurement}
@@ -71,22 +71,22 @@ pub record Display (m : System) : Type 0 where
   -- and the bytes of a telegram are those that were heard, as the account gathers them: ten are a telegram, fewer stand gathered
   pub telegram : (h : Head) (b t : ℕ) → h.ear.count ≤ 9 → length h.ear.bytes ≡ 10
       → let l = gather (record { bytes = take h.ear.count h.ear.bytes; last = h.ear.at }) b t in
-      10 ≤ length l → ((gathered_of h.ear b t).whole ≡ true) × ((gathered_of h.ear b t).ten ≡ l)
+      10 ≤ length l → (is_some (gathered_of h.ear b t).ten ≡ true) × (ten_in (gathered_of h.ear b t).ten ≡ l)
   pub gathers : (h : Head) (b t : ℕ) → h.ear.count ≤ 9 → length h.ear.bytes ≡ 10
       → let l = gather (record { bytes = take h.ear.count h.ear.bytes; last = h.ear.at }) b t in
-      let g = gathered_of h.ear b t in length l < 10 → (g.whole ≡ false) × (take g.ear.count g.ear.bytes ≡ l)
+      let g = gathered_of h.ear b t in length l < 10 → (is_some g.ten ≡ false) × (take g.ear.count g.ear.bytes ≡ l)
   -- an accepted write of FBh or FFh stores its four data bytes, whatever they are, and status bit 9 tells from then on whether they are characters: bit 7 of its
   -- control word
-  pub spells1 : (h : Head) (b t : ℕ) (space : List ℕ) → Taken h space → (gathered_of h.ear b t).whole ≡ true
-      → let ten = (gathered_of h.ear b t).ten in
+  pub spells1 : (h : Head) (b t : ℕ) (space : List ℕ) → Taken h space → is_some (gathered_of h.ear b t).ten ≡ true
+      → let ten = ten_in (gathered_of h.ear b t).ten in
       accepted h.stored.number (locked h) ten ≡ true → (fields_of ten).parameter ≡ 0xFB → ((i : ℕ) → get_or ten i 0 < 256)
       → Spelled (m.on_head.byte h b t (length space)).head.targets.first ten
-  pub spells2 : (h : Head) (b t : ℕ) (space : List ℕ) → Taken h space → (gathered_of h.ear b t).whole ≡ true
-      → let ten = (gathered_of h.ear b t).ten in
+  pub spells2 : (h : Head) (b t : ℕ) (space : List ℕ) → Taken h space → is_some (gathered_of h.ear b t).ten ≡ true
+      → let ten = ten_in (gathered_of h.ear b t).ten in
       accepted h.stored.number (locked h) ten ≡ true → (fields_of ten).parameter ≡ 0xFF → ((i : ℕ) → get_or ten i 0 < 256)
       → Spelled (m.on_head.byte h b t (length space)).head.targets.second ten
-  pub identifies : (h : Head) (b t : ℕ) (space : List ℕ) → Taken h space → (gathered_of h.ear b t).whole ≡ true
-      → let ten = (gathered_of h.ear b t).ten in
+  pub identifies : (h : Head) (b t : ℕ) (space : List ℕ) → Taken h space → is_some (gathered_of h.ear b t).ten ≡ true
+      → let ten = ten_in (gathered_of h.ear b t).ten in
       accepted h.stored.number (locked h) ten ≡ true → ((fields_of ten).parameter ≡ 0xFB) ⊎ ((fields_of ten).parameter ≡ 0xFF)
       → let k = (m.on_head.byte h b t (length space)).head in displays k ≡ true → bit_set (status_of k) 9 ≡ bit_set (fields_of ten).word 7
   -- no call on a head in alpha-numeric display sets the static bit, whatever head is handed in

@@ -1,12 +1,12 @@
 -- What is the same for every telegram, over the public byte call of a head alone: what a reply copies, and which status word it carries; what a read,
 -- and a write of a stored parameter, leave as they were; what a sound one and a damaged one do to the monitor and to the errors.
 -- Assumes nothing.
-use Rattle.std.specs.Prelude.{ℕ, ◌+◌, ◌<◌, ◌≤◌, ◌≡◌, Bool, true, false, cond, not, ◌&&◌, ◌||◌, ◌≢◌, ◌⊎◌, List, ltb, eqb, length, take}
+use Rattle.std.specs.Prelude.{ℕ, ◌+◌, ◌<◌, ◌≤◌, ◌≡◌, Bool, true, false, cond, not, ◌&&◌, ◌||◌, ◌≢◌, ◌⊎◌, List, ltb, eqb, length, take, Ok, is_some}
 use Rattle.wire.specs.declared.telegram.Telegram.{Telegram}
 use Rattle.wire.specs.Check.{hit_of}
 use Rattle.wire.specs.declared.fault.Fault.{Fault}
 use Rattle.wire.specs.Faults.{code_of}
-use Rattle.wire.specs.Telegram.{fields_of}
+use Rattle.wire.specs.Telegram.{fields_of, ten_in}
 use Rattle.wire.specs.Word.{byte0}
 use Rattle.signed.specs.Number.{word_of}
 use Rattle.rows.specs.declared.access.Access.{Access}
@@ -20,7 +20,6 @@ use Rattle.state.specs.declared.parts.Head.{Head}
 use Rattle.state.specs.Errors.{remembered_of}
 use Rattle.state.specs.Position.{view_of}
 use Rattle.state.specs.Status.{status_of, difference_of}
-use Rattle.head.specs.declared.calls.Heard.TheVariants as heard
 use Rattle.head.specs.Hear.{standing_of, gathered_of}
 use Rattle.demands.specs.Past.{accepted, gives, look}
 use Rattle.demands.specs.Run.{System}
@@ -143,117 +142,117 @@ aim_answer how k =
 
 pub record Every (m : System) : Type 0 where
   -- a reply copies command and node, and carries the status word of before or of after
-  pub copies : (h : Head) (b t : ℕ) (space : List ℕ) → Taken h space → (gathered_of h.ear b t).whole ≡ true
-      → (m.on_head.byte h b t (length space)).heard ≡ heard.Replies 1
-      → let asked = fields_of (gathered_of h.ear b t).ten in
+  pub copies : (h : Head) (b t : ℕ) (space : List ℕ) → Taken h space → is_some (gathered_of h.ear b t).ten ≡ true
+      → (m.on_head.byte h b t (length space)).heard ≡ Ok 1
+      → let asked = fields_of (ten_in (gathered_of h.ear b t).ten) in
       let x = fields_of (take 10 (m.on_head.space h b t space)) in
       Copies asked x (word_told asked x h (m.on_head.byte h b t (length space)).head)
-  pub polls : (h : Head) (b t : ℕ) (space : List ℕ) → Taken h space → (gathered_of h.ear b t).whole ≡ true
-      → let ten = (gathered_of h.ear b t).ten in
+  pub polls : (h : Head) (b t : ℕ) (space : List ℕ) → Taken h space → is_some (gathered_of h.ear b t).ten ≡ true
+      → let ten = ten_in (gathered_of h.ear b t).ten in
       (fields_of ten).command ≡ 0 → Polled h (m.on_head.byte h b t (length space)).head (fields_of ten).parameter (hit_of ten)
   -- a write of a stored parameter, of 1Fh too, leaves the zero, the adopted value and all else of the measurement; and the set points, but that it may enter or
   -- leave alpha-numeric display
-  pub sets : (h : Head) (b t : ℕ) (space : List ℕ) → Taken h space → (gathered_of h.ear b t).whole ≡ true
-      → (fields_of (gathered_of h.ear b t).ten).command ≡ 1
-      → (r : ℕ) → r < 39 → (fields_of (gathered_of h.ear b t).ten).parameter ≡ address (row_of r)
+  pub sets : (h : Head) (b t : ℕ) (space : List ℕ) → Taken h space → is_some (gathered_of h.ear b t).ten ≡ true
+      → (fields_of (ten_in (gathered_of h.ear b t).ten)).command ≡ 1
+      → (r : ℕ) → r < 39 → (fields_of (ten_in (gathered_of h.ear b t).ten)).parameter ≡ address (row_of r)
       → let k = (m.on_head.byte h b t (length space)).head in (k.measurement ≡ h.measurement) × Turned h k
   -- a sound telegram starts the monitor, also one for another head
-  pub starts : (h : Head) (b t : ℕ) (space : List ℕ) → Taken h space → (gathered_of h.ear b t).whole ≡ true
-      → hit_of (gathered_of h.ear b t).ten ≡ 0 → (judged_of (gathered_of h.ear b t).ten (standing_of h)).deed ≢ Restart
+  pub starts : (h : Head) (b t : ℕ) (space : List ℕ) → Taken h space → is_some (gathered_of h.ear b t).ten ≡ true
+      → hit_of (ten_in (gathered_of h.ear b t).ten) ≡ 0 → (judged_of (ten_in (gathered_of h.ear b t).ten) (standing_of h)).deed ≢ Restart
       → (m.on_head.byte h b t (length space)).head.monitor ≡ record { running = true; since = t }
   -- it leaves what the head keeps of the last damaged one, and sets their count to 0 (a restart: `restarts` of Demand2)
-  pub spares : (h : Head) (b t : ℕ) (space : List ℕ) → Taken h space → (gathered_of h.ear b t).whole ≡ true
-      → hit_of (gathered_of h.ear b t).ten ≡ 0 → (judged_of (gathered_of h.ear b t).ten (standing_of h)).deed ≢ Restart
+  pub spares : (h : Head) (b t : ℕ) (space : List ℕ) → Taken h space → is_some (gathered_of h.ear b t).ten ≡ true
+      → hit_of (ten_in (gathered_of h.ear b t).ten) ≡ 0 → (judged_of (ten_in (gathered_of h.ear b t).ten) (standing_of h)).deed ≢ Restart
       → let k = (m.on_head.byte h b t (length space)).head in (k.faults.hit ≡ h.faults.hit) × (k.faults.damaged ≡ 0)
   -- a damaged one, for whomever, is kept by its exclusive-or, and counts; the third in a row raises 0080h, and the count returns to 0
-  pub counts : (h : Head) (b t : ℕ) (space : List ℕ) → Taken h space → (gathered_of h.ear b t).whole ≡ true
-      → hit_of (gathered_of h.ear b t).ten ≢ 0 → Damaged h (m.on_head.byte h b t (length space)).head (hit_of (gathered_of h.ear b t).ten)
+  pub counts : (h : Head) (b t : ℕ) (space : List ℕ) → Taken h space → is_some (gathered_of h.ear b t).ten ≡ true
+      → hit_of (ten_in (gathered_of h.ear b t).ten) ≢ 0 → Damaged h (m.on_head.byte h b t (length space)).head (hit_of (ten_in (gathered_of h.ear b t).ten))
   -- and whichever bits were hit, the answer is the same: 00 80, which enters the input list, where it is this head's to answer; else silence, and
   -- that list is as it was
-  pub refuses : (h : Head) (b t : ℕ) (space : List ℕ) → Taken h space → (gathered_of h.ear b t).whole ≡ true
-      → hit_of (gathered_of h.ear b t).ten ≢ 0
-      → let own = mine (fields_of (gathered_of h.ear b t).ten) h in
+  pub refuses : (h : Head) (b t : ℕ) (space : List ℕ) → Taken h space → is_some (gathered_of h.ear b t).ten ≡ true
+      → hit_of (ten_in (gathered_of h.ear b t).ten) ≢ 0
+      → let own = mine (fields_of (ten_in (gathered_of h.ear b t).ten)) h in
       let x = fields_of (take 10 (m.on_head.space h b t space)) in
-      ((m.on_head.byte h b t (length space)).heard ≡ heard.Replies (cond own 1 0))
+      ((m.on_head.byte h b t (length space)).heard ≡ Ok (cond own 1 0))
       × (own ≡ true → (x.parameter ≡ 0xFD) × (x.value ≡ 0x0080))
       × ((m.on_head.byte h b t (length space)).head.faults.inputs ≡ cond own (remembered_of h.faults.inputs 0x0080) h.faults.inputs)
   -- an error reply enters the input list with its code
-  pub complains : (h : Head) (b t : ℕ) (space : List ℕ) → Taken h space → (gathered_of h.ear b t).whole ≡ true
-      → (f : Fault) → (judged_of (gathered_of h.ear b t).ten (standing_of h)).verdict ≡ Refused f
+  pub complains : (h : Head) (b t : ℕ) (space : List ℕ) → Taken h space → is_some (gathered_of h.ear b t).ten ≡ true
+      → (f : Fault) → (judged_of (ten_in (gathered_of h.ear b t).ten) (standing_of h)).verdict ≡ Refused f
       → (m.on_head.byte h b t (length space)).head.faults.inputs ≡ remembered_of h.faults.inputs (code_of f)
   -- whatever is judged: a reply with FDh in the parameter's place, but for a sound read of FDh, is an error's; it enters the input list with the code that it
   -- tells, and the telegram changes only what document 01 lists
-  pub errs : (h : Head) (b t : ℕ) (space : List ℕ) → Taken h space → (gathered_of h.ear b t).whole ≡ true
-      → let ten = (gathered_of h.ear b t).ten in
+  pub errs : (h : Head) (b t : ℕ) (space : List ℕ) → Taken h space → is_some (gathered_of h.ear b t).ten ≡ true
+      → let ten = ten_in (gathered_of h.ear b t).ten in
       let x = fields_of (take 10 (m.on_head.space h b t space)) in
-      (m.on_head.byte h b t (length space)).heard ≡ heard.Replies 1 → x.parameter ≡ 0xFD
+      (m.on_head.byte h b t (length space)).heard ≡ Ok 1 → x.parameter ≡ 0xFD
       → ((fields_of ten).parameter ≢ 0xFD) ⊎ (((fields_of ten).command ≢ 0) ⊎ (hit_of ten ≢ 0))
       → Complained h (m.on_head.byte h b t (length space)).head (hit_of ten) x.value
   -- a sound telegram for another head is met with silence, and does nothing
-  pub passes : (h : Head) (b t : ℕ) (space : List ℕ) → Taken h space → (gathered_of h.ear b t).whole ≡ true
-      → let ten = (gathered_of h.ear b t).ten in
+  pub passes : (h : Head) (b t : ℕ) (space : List ℕ) → Taken h space → is_some (gathered_of h.ear b t).ten ≡ true
+      → let ten = ten_in (gathered_of h.ear b t).ten in
       hit_of ten ≡ 0 → (fields_of ten).command ≢ 2 → (fields_of ten).node ≢ h.stored.number
-      → ((m.on_head.byte h b t (length space)).heard ≡ heard.Replies 0)
+      → ((m.on_head.byte h b t (length space)).heard ≡ Ok 0)
       × (m.on_head.space h b t space ≡ space)
       × Passed h (m.on_head.byte h b t (length space)).head t h.stored.offer
   -- a sound broadcast that is not accepted, by the account's own tests (Past), is met with silence, and does nothing
-  pub uncast : (h : Head) (b t : ℕ) (space : List ℕ) → Taken h space → (gathered_of h.ear b t).whole ≡ true
-      → let ten = (gathered_of h.ear b t).ten in
+  pub uncast : (h : Head) (b t : ℕ) (space : List ℕ) → Taken h space → is_some (gathered_of h.ear b t).ten ≡ true
+      → let ten = ten_in (gathered_of h.ear b t).ten in
       hit_of ten ≡ 0 → (fields_of ten).command ≡ 2 → accepted h.stored.number (locked h) ten ≡ false
-      → ((m.on_head.byte h b t (length space)).heard ≡ heard.Replies 0)
+      → ((m.on_head.byte h b t (length space)).heard ≡ Ok 0)
       × (m.on_head.space h b t space ≡ space)
       × Passed h (m.on_head.byte h b t (length space)).head t h.stored.offer
   -- no broadcast is answered
-  pub casts : (h : Head) (b t : ℕ) (space : List ℕ) → Taken h space → (gathered_of h.ear b t).whole ≡ true
-      → (fields_of (gathered_of h.ear b t).ten).command ≡ 2
-      → ((m.on_head.byte h b t (length space)).heard ≡ heard.Replies 0) × (m.on_head.space h b t space ≡ space)
+  pub casts : (h : Head) (b t : ℕ) (space : List ℕ) → Taken h space → is_some (gathered_of h.ear b t).ten ≡ true
+      → (fields_of (ten_in (gathered_of h.ear b t).ten)).command ≡ 2
+      → ((m.on_head.byte h b t (length space)).heard ≡ Ok 0) × (m.on_head.space h b t space ≡ space)
   -- a sound read, at the number in force, of a parameter that may be read is answered, with that parameter, whatever its control word and its data; of 96h where
   -- its number is not above the count. It enters nothing in the input list
-  pub read : (h : Head) (b t : ℕ) (space : List ℕ) → Taken h space → (gathered_of h.ear b t).whole ≡ true
-      → let ten = (gathered_of h.ear b t).ten in
+  pub read : (h : Head) (b t : ℕ) (space : List ℕ) → Taken h space → is_some (gathered_of h.ear b t).ten ≡ true
+      → let ten = ten_in (gathered_of h.ear b t).ten in
       hit_of ten ≡ 0 → (fields_of ten).command ≡ 0 → (fields_of ten).node ≡ h.stored.number → readable (access_of (fields_of ten).parameter) ≡ true
       → ((fields_of ten).parameter ≡ 0x96 → byte0 (fields_of ten).value ≤ h.faults.inputs.count)
-      → ((m.on_head.byte h b t (length space)).heard ≡ heard.Replies 1)
+      → ((m.on_head.byte h b t (length space)).heard ≡ Ok 1)
       × ((fields_of (take 10 (m.on_head.space h b t space))).parameter ≡ (fields_of ten).parameter)
       × ((m.on_head.byte h b t (length space)).head.faults.inputs ≡ h.faults.inputs)
   -- a sound telegram at the number in force whose command is above 02h is 00 84, whatever its parameter
-  pub above : (h : Head) (b t : ℕ) (space : List ℕ) → Taken h space → (gathered_of h.ear b t).whole ≡ true
-      → let ten = (gathered_of h.ear b t).ten in
+  pub above : (h : Head) (b t : ℕ) (space : List ℕ) → Taken h space → is_some (gathered_of h.ear b t).ten ≡ true
+      → let ten = ten_in (gathered_of h.ear b t).ten in
       let x = fields_of (take 10 (m.on_head.space h b t space)) in
       hit_of ten ≡ 0 → 2 < (fields_of ten).command → (fields_of ten).node ≡ h.stored.number
-      → ((m.on_head.byte h b t (length space)).heard ≡ heard.Replies 1) × (x.parameter ≡ 0xFD) × (x.value ≡ 0x0084)
+      → ((m.on_head.byte h b t (length space)).heard ≡ Ok 1) × (x.parameter ≡ 0xFD) × (x.value ≡ 0x0084)
   -- a write that is accepted, by the account's own tests, is answered, but for D2h; with the value written, but for FFh
-  pub written : (h : Head) (b t : ℕ) (space : List ℕ) → Taken h space → (gathered_of h.ear b t).whole ≡ true
-      → let ten = (gathered_of h.ear b t).ten in
+  pub written : (h : Head) (b t : ℕ) (space : List ℕ) → Taken h space → is_some (gathered_of h.ear b t).ten ≡ true
+      → let ten = ten_in (gathered_of h.ear b t).ten in
       let x = fields_of (take 10 (m.on_head.space h b t space)) in
       accepted h.stored.number (locked h) ten ≡ true → (fields_of ten).command ≡ 1 → (fields_of ten).parameter ≢ 0xD2
-      → ((m.on_head.byte h b t (length space)).heard ≡ heard.Replies 1)
+      → ((m.on_head.byte h b t (length space)).heard ≡ Ok 1)
       × (x.parameter ≡ (fields_of ten).parameter)
       × ((fields_of ten).parameter ≢ 0xFF → (fields_of ten).value < 4294967296 → x.value ≡ (fields_of ten).value)
   -- and one of FFh is answered by 03h, after the write
-  pub aimed : (h : Head) (b t : ℕ) (space : List ℕ) → Taken h space → (gathered_of h.ear b t).whole ≡ true
-      → let ten = (gathered_of h.ear b t).ten in
+  pub aimed : (h : Head) (b t : ℕ) (space : List ℕ) → Taken h space → is_some (gathered_of h.ear b t).ten ≡ true
+      → let ten = ten_in (gathered_of h.ear b t).ten in
       accepted h.stored.number (locked h) ten ≡ true → (fields_of ten).command ≡ 1 → (fields_of ten).parameter ≡ 0xFF → (fields_of ten).value < 4294967296
       → (fields_of (take 10 (m.on_head.space h b t space))).value ≡ aim_answer (setting h 3) (m.on_head.byte h b t (length space)).head
   -- an accepted write or broadcast, but for A0h 9, does what its address says, and leaves all else that is not stored
-  pub acts : (h : Head) (b t : ℕ) (space : List ℕ) → Taken h space → (gathered_of h.ear b t).whole ≡ true
-      → let asked = fields_of (gathered_of h.ear b t).ten in
-      accepted h.stored.number (locked h) (gathered_of h.ear b t).ten ≡ true → (eqb asked.parameter 0xA0 && eqb asked.value 9) ≡ false
+  pub acts : (h : Head) (b t : ℕ) (space : List ℕ) → Taken h space → is_some (gathered_of h.ear b t).ten ≡ true
+      → let asked = fields_of (ten_in (gathered_of h.ear b t).ten) in
+      accepted h.stored.number (locked h) (ten_in (gathered_of h.ear b t).ten) ≡ true → (eqb asked.parameter 0xA0 && eqb asked.value 9) ≡ false
       → Acted h (m.on_head.byte h b t (length space)).head (act_of asked.parameter asked.value) asked.value asked.word
   -- and stores what the account has of it, also in a head that was handed in
-  pub stores : (h : Head) (b t : ℕ) (space : List ℕ) → Taken h space → (gathered_of h.ear b t).whole ≡ true
-      → let asked = fields_of (gathered_of h.ear b t).ten in
-      accepted h.stored.number (locked h) (gathered_of h.ear b t).ten ≡ true → length h.stored.values ≡ 39
+  pub stores : (h : Head) (b t : ℕ) (space : List ℕ) → Taken h space → is_some (gathered_of h.ear b t).ten ≡ true
+      → let asked = fields_of (ten_in (gathered_of h.ear b t).ten) in
+      accepted h.stored.number (locked h) (ten_in (gathered_of h.ear b t).ten) ≡ true → length h.stored.values ≡ 39
       → (r : ℕ) → r < 39 → setting (m.on_head.byte h b t (length space)).head r ≡ look (gives asked.parameter asked.value r) (setting h r)
   -- A8h opens the interlock with 1 and closes it with 0, and no other touches it
-  pub locks : (h : Head) (b t : ℕ) (space : List ℕ) → Taken h space → (gathered_of h.ear b t).whole ≡ true
-      → let asked = fields_of (gathered_of h.ear b t).ten in
-      accepted h.stored.number (locked h) (gathered_of h.ear b t).ten ≡ true → length h.stored.values ≡ 39
+  pub locks : (h : Head) (b t : ℕ) (space : List ℕ) → Taken h space → is_some (gathered_of h.ear b t).ten ≡ true
+      → let asked = fields_of (ten_in (gathered_of h.ear b t).ten) in
+      accepted h.stored.number (locked h) (ten_in (gathered_of h.ear b t).ten) ≡ true → length h.stored.values ≡ 39
       → (m.on_head.byte h b t (length space)).head.stored.unlocked ≡ cond (eqb asked.parameter 0xA8) (eqb asked.value 1) h.stored.unlocked
   -- after a telegram, whichever it is, none is gathered
-  pub ends : (h : Head) (b t : ℕ) (space : List ℕ) → Taken h space → (gathered_of h.ear b t).whole ≡ true
+  pub ends : (h : Head) (b t : ℕ) (space : List ℕ) → Taken h space → is_some (gathered_of h.ear b t).ten ≡ true
       → (m.on_head.byte h b t (length space)).head.ear.count ≡ 0
   -- only a restart takes 00h and 01h into force: no write of them, and no reset
-  pub in_force_lem : (h : Head) (b t : ℕ) (space : List ℕ) → Taken h space → (gathered_of h.ear b t).whole ≡ true
-      → (judged_of (gathered_of h.ear b t).ten (standing_of h)).deed ≢ Restart
+  pub in_force_lem : (h : Head) (b t : ℕ) (space : List ℕ) → Taken h space → is_some (gathered_of h.ear b t).ten ≡ true
+      → (judged_of (ten_in (gathered_of h.ear b t).ten) (standing_of h)).deed ≢ Restart
       → let k = (m.on_head.byte h b t (length space)).head in (k.stored.number ≡ h.stored.number) × (k.stored.baud ≡ h.stored.baud)

@@ -1,14 +1,13 @@
 -- Which bits were hit (document 02, request (i)): the last non-zero exclusive-or, which a head keeps, is the one that looking back over the calls
 -- finds. `last_hit` looks into no head: which bytes a head has gathered, and which calls restart it, stand in the account (Past).
 -- Assumes nothing.
-use Rattle.std.specs.Prelude.{ℕ, ◌<◌, ◌≤◌, ◌≡◌, cond, ◌||◌, List, [], ◌∷◌, ltb, eqb, pos, length, get_or, set, replicate}
+use Rattle.std.specs.Prelude.{ℕ, ◌<◌, ◌≤◌, ◌≡◌, cond, ◌||◌, List, [], ◌∷◌, ltb, eqb, pos, length, get_or, set, replicate, Ok, Err}
 use Rattle.std.proofs.Math.Option.{Option, none, some}
 use Rattle.std.specs.Int.Bits.{bit_xor}
 use Rattle.wire.specs.declared.telegram.Telegram.{Telegram}
 use Rattle.wire.specs.Check.{xor_all, hit_of}
 use Rattle.wire.specs.Telegram.{bytes_of}
 use Rattle.head.specs.declared.refusal.Refusal.TheVariants.{NoHead}
-use Rattle.head.specs.declared.calls.Hit.TheVariants.{Bits, Refused}
 use Rattle.demands.specs.Calls.{Call, new_head, byte, tick, named, keys, dropped, measure, power, Calls, start, ◌▸◌, hearing}
 use Rattle.demands.specs.Past.{Entry, room, gather, change, look, count, serials, entry}
 use Rattle.demands.specs.Run.{System, machine_of, runs, head_after}
@@ -43,9 +42,9 @@ last_hit (cs ▸ c) k = cond (change c (count cs) (serials cs) k (entry cs k)).r
 -- after any calls on a line grown from none, refused ones included, the call that reads it shows it, on the line and on the head alone; of a head
 -- that is not there it is refused with 3
 pub record Hits (m : System) : Type 0 where
-  pub on_line : (cs : Calls) (k : ℕ) → k < count cs → m.on_line_of.hit (runs (machine_of m) cs) k ≡ Bits (last_hit cs k)
-  pub alone : (cs : Calls) (k : ℕ) → k < count cs → m.on_head.hit (head_after (machine_of m) cs k) ≡ Bits (last_hit cs k)
-  pub no_head : (cs : Calls) (k : ℕ) → count cs ≤ k → m.on_line_of.hit (runs (machine_of m) cs) k ≡ Refused NoHead
+  pub on_line : (cs : Calls) (k : ℕ) → k < count cs → m.on_line_of.hit (runs (machine_of m) cs) k ≡ Ok (last_hit cs k)
+  pub alone : (cs : Calls) (k : ℕ) → k < count cs → m.on_head.hit (head_after (machine_of m) cs k) ≡ Ok (last_hit cs k)
+  pub no_head : (cs : Calls) (k : ℕ) → count cs ≤ k → m.on_line_of.hit (runs (machine_of m) cs) k ≡ Err NoHead
 
 -- ---- a line of two heads, at 31 and at 12, and what each of them shows after some calls
 pub record Seen : Type 0 where
@@ -59,7 +58,7 @@ seen cs x y = record { calls = cs; first = x; second = y }
 abbrev pub AllSeen : System → List Seen → Type 0
 AllSeen m [] = Unit {0}
 AllSeen m (s ∷ ss) =
-    (m.on_line_of.hit (runs (machine_of m) s.calls) 0 ≡ Bits s.first) × (m.on_line_of.hit (runs (machine_of m) s.calls) 1 ≡ Bits s.second) × AllSeen m ss
+    (m.on_line_of.hit (runs (machine_of m) s.calls) 0 ≡ Ok s.first) × (m.on_line_of.hit (runs (machine_of m) s.calls) 1 ≡ Ok s.second) × AllSeen m ss
 
 abbrev pub two : Calls
 two = start ▸ new_head 31 4711 ▸ new_head 12 4712

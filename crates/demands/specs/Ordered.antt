@@ -1,9 +1,8 @@
 -- What an accepted order form is worth: a line that is grown by its rows. It is asked of any system, and of any check that does what is asked of it
 -- (the crate order_form, Demand). It ends in the last sentence of demand 3, whose condition, that the numbers in force differ, the form meets.
 -- Assumes nothing.
-use Rattle.std.specs.Prelude.{ℕ, zero, suc, ◌<◌, ◌≤◌, ◌≡◌, ◌≢◌, ◌⊎◌, List, [], ◌∷◌, ◌++◌, length, take}
+use Rattle.std.specs.Prelude.{ℕ, zero, suc, ◌<◌, ◌≤◌, ◌≡◌, ◌≢◌, ◌⊎◌, List, [], ◌∷◌, ◌++◌, length, take, Ok}
 use Rattle.std.proofs.Math.Option.{none, some}
-use Rattle.head.specs.declared.calls.Heard.TheVariants as heard
 use Rattle.order_form.specs.declared.row.Row.{Row}
 use Rattle.order_form.specs.declared.row.Column.TheVariants.{Serial, Number}
 use Rattle.order_form.specs.declared.answer.Answer.{Answer}
@@ -48,7 +47,7 @@ pub record Ordered (m : System) (rows : List Row) : Type 0 where
   pub differ : (cs : Calls) → Unnumbered (grown_by rows) cs → Differ (grown_by rows then cs)
   -- so no byte call draws two replies, and one that ends no broadcast changes the stored parameters of one head at most
   pub one_reply : (cs : Calls) (b t s n : ℕ) → Unnumbered (grown_by rows) cs
-      → (machine_of m).heard (runs (machine_of m) (grown_by rows then cs)) b t s ≡ heard.Replies n → n ≤ 1
+      → (machine_of m).heard (runs (machine_of m) (grown_by rows then cs)) b t s ≡ Ok n → n ≤ 1
   pub one_change : (cs : Calls) (b t s : ℕ) → Unnumbered (grown_by rows) cs → NoBroadcast (grown_by rows then cs) b t s
       → (i j : ℕ) → i < length rows → j < length rows → i ≢ j
       → Unchanged (machine_of m) (grown_by rows then cs) b t s i ⊎ Unchanged (machine_of m) (grown_by rows then cs) b t s j
@@ -76,7 +75,7 @@ asking = hearing start (0x00 ∷ 0x1F ∷ 0x20 ∷ 0 ∷ 0 ∷ 0 ∷ 0 ∷ 0 ∷
 
 pub record Accident (m : System) (check : List Row → Answer) : Type 0 where
   pub sent_back : check accident ≡ Repeats Number 1 0
-  pub collides : (machine_of m).heard (runs (machine_of m) (grown_by accident then asking)) 0x3F 0 10 ≡ heard.Replies 2
+  pub collides : (machine_of m).heard (runs (machine_of m) (grown_by accident then asking)) 0x3F 0 10 ≡ Ok 2
   -- the twin is sent back for its serial, and a line refuses its second row
   pub twin_sent_back : check twin ≡ Repeats Serial 1 0
   pub twin_refused : Ordered m twin → ⊥
@@ -117,4 +116,4 @@ pub record Lived (m : System) (check : List Row → Answer) : Type 0 where
   pub number_first_lem : refused_as m.on_line_of (new_head 128 4712) (runs (machine_of m) (grown_by apart)) ≡ some 1
   pub worth : Ordered m apart
   pub unnumbered : Unnumbered (grown_by apart) lived
-  pub replies : (machine_of m).heard (runs (machine_of m) (grown_by apart then lived)) 0x2C 0 10 ≡ heard.Replies 1
+  pub replies : (machine_of m).heard (runs (machine_of m) (grown_by apart then lived)) 0x2C 0 10 ≡ Ok 1

@@ -3,6 +3,8 @@
 -- tools/outcomes sees that each public function has its field, and that it cites its own contract.
 -- Assumes nothing.
 use Rattle.std.specs.Prelude.{ℕ, ◌≡◌, List}
+use mir.Syntax.{w64}
+use mir.Val.{Fits}
 use contract.Lifetimes.{Lfts}
 use denote.Triple.Clauses.{Lasts, at_exit}
 use borrow.Fn.Kinds.{ParamKind, ResultKind, Dens, res_t, ended_of, Out}
@@ -28,6 +30,7 @@ use Rattle.judge.proofs.judged as judge-judged
 use Rattle.judge.proofs.verdict as judge-verdict
 use Rattle.state.proofs.errors as state-errors
 use Rattle.state.proofs.position as state-position
+use Rattle.state.proofs.control as state-control
 use Rattle.state.proofs.mode as state-mode
 use Rattle.state.proofs.older as state-older
 use Rattle.state.proofs.status as state-status
@@ -44,12 +47,14 @@ use Rattle.head.proofs.moves as head-moves
 use Rattle.head.proofs.refusal as head-refusal
 use Rattle.reply.proofs as reply
 use Rattle.line.proofs.calls as line-calls
+use Rattle.line.proofs.round as line-round
 use Rattle.rack.proofs as rack
 use Rattle.order_form.proofs as order_form
 use Rattle.order_form.proofs.answer as order_form-answer
 use Rattle.order_form.proofs.form as order_form-form
 use Rattle.free_number.proofs.answer as free_number-answer
 use Rattle.free_number.proofs.map as free_number-map
+use Rattle.text.proofs.keeping as text-keeping
 use Rattle.text.proofs.laying as text-laying
 use Rattle.text.proofs.lines as text-lines
 use Rattle.text.proofs.numbers as text-numbers
@@ -117,6 +122,7 @@ pub record Outcomes : Type 0 where
   pub judge_deed_deed_of : One judge-deed.deed_of.Kinds.ps judge-deed.deed_of.Kinds.r judge-deed.deed_of.Reads.Post
   pub judge_judged_judge : One judge-judged.judge.Kinds.ps judge-judged.judge.Kinds.r judge-judged.judge.Reads.Post
   pub judge_verdict_verdict_of : One judge-verdict.verdict_of.Kinds.ps judge-verdict.verdict_of.Kinds.r judge-verdict.verdict_of.Reads.Post
+  pub state_control_bit : One state-control.bit.Kinds.ps state-control.bit.Kinds.r state-control.bit.Reads.Post
   pub state_errors_empty_list : One state-errors.empty_list.Kinds.ps state-errors.empty_list.Kinds.r state-errors.empty_list.Reads.Post
   pub state_errors_remembered : One state-errors.remembered.Kinds.ps state-errors.remembered.Kinds.r state-errors.remembered.Reads.Post
   pub state_errors_entry : One state-errors.entry.Kinds.ps state-errors.entry.Kinds.r state-errors.entry.Reads.Post
@@ -198,6 +204,7 @@ pub record Outcomes : Type 0 where
   pub line_calls_serial_number : One line-calls.serial_number.Kinds.ps line-calls.serial_number.Kinds.r line-calls.serial_number.Reads.Post
   pub line_calls_load : One line-calls.load.Kinds.ps line-calls.load.Kinds.r line-calls.load.Reads.Post
   pub line_calls_save : One line-calls.save.Kinds.ps line-calls.save.Kinds.r line-calls.save.Reads.Post
+  pub line_round_told : One line-round.told.Kinds.ps line-round.told.Kinds.r line-round.told.Reads.Post
   pub rack_rack : One rack.rack.Kinds.ps rack.rack.Kinds.r rack.rack.Reads.Post
   pub order_form_answer_number : One order_form-answer.Refusal.number.Kinds.ps order_form-answer.Refusal.number.Kinds.r order_form-answer.Refusal.number.Reads.Post
   pub order_form_form_blank : One order_form-form.blank.Kinds.ps order_form-form.blank.Kinds.r order_form-form.blank.Reads.Post
@@ -210,6 +217,18 @@ pub record Outcomes : Type 0 where
   pub free_number_map_remove : One free_number-map.remove.Kinds.ps free_number-map.remove.Kinds.r free_number-map.remove.Reads.Post
   pub free_number_map_lowest_free : One free_number-map.lowest_free.Kinds.ps free_number-map.lowest_free.Kinds.r free_number-map.lowest_free.Reads.Post
   pub free_number_map_count : One free_number-map.count.Kinds.ps free_number-map.count.Kinds.r free_number-map.count.Reads.Post
+  pub text_keeping_new :
+      (n : ℕ) (f : Fits w64 n)
+      → One (text-keeping.Kept.new.Kinds.ps n f) (text-keeping.Kept.new.Kinds.r n f) (text-keeping.Kept.new.Reads.Post n f)
+  pub text_keeping_take_in :
+      (n : ℕ) (f : Fits w64 n)
+      → One (text-keeping.Kept.take_in.Kinds.ps n f) (text-keeping.Kept.take_in.Kinds.r n f) (text-keeping.Kept.take_in.Reads.Post n f)
+  pub text_keeping_is_empty :
+      (n : ℕ) (f : Fits w64 n)
+      → One (text-keeping.Kept.is_empty.Kinds.ps n f) (text-keeping.Kept.is_empty.Kinds.r n f) (text-keeping.Kept.is_empty.Reads.Post n f)
+  pub text_keeping_clear :
+      (n : ℕ) (f : Fits w64 n)
+      → One (text-keeping.Kept.clear.Kinds.ps n f) (text-keeping.Kept.clear.Kinds.r n f) (text-keeping.Kept.clear.Reads.Post n f)
   pub text_laying_lay : One text-laying.lay.Kinds.ps text-laying.lay.Kinds.r text-laying.lay.Reads.Post
   pub text_lines_bare_length : One text-lines.bare_length.Kinds.ps text-lines.bare_length.Kinds.r text-lines.bare_length.Reads.Post
   pub text_lines_take_in : One text-lines.take_in.Kinds.ps text-lines.take_in.Kinds.r text-lines.take_in.Reads.Post

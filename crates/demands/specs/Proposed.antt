@@ -1,8 +1,7 @@
 -- What a proposed number is worth to whoever fills in an order form. It is asked of any keeper of a map (the crate free_number, Demand) and of any
 -- check (the crate order_form, Demand) that do what is asked of them.
 -- Assumes nothing.
-use Rattle.std.specs.Prelude.{ℕ, ◌≤◌, ◌<◌, ◌≡◌, ◌≢◌, ◌↔◌, List, [], ◌∷◌, ◌++◌, map, length, set}
-use Rattle.head.specs.declared.calls.Heard.TheVariants as heard
+use Rattle.std.specs.Prelude.{ℕ, ◌≤◌, ◌<◌, ◌≡◌, ◌≢◌, ◌↔◌, List, [], ◌∷◌, ◌++◌, map, length, set, Ok, Some, None, Option}
 use Rattle.order_form.specs.declared.row.Row.{Row}
 use Rattle.order_form.specs.declared.row.Column.{Column}
 use Rattle.order_form.specs.declared.row.Column.TheVariants.{Serial, Number}
@@ -11,8 +10,6 @@ use Rattle.order_form.specs.declared.answer.Answer.TheVariants.{AllDiffer, Repea
 use Rattle.order_form.specs.declared.answer.Refusal.{Refusal}
 use Rattle.order_form.specs.Demand as form
 use Rattle.free_number.specs.declared.map.Map.{Map}
-use Rattle.free_number.specs.declared.map.Free.{Free}
-use Rattle.free_number.specs.declared.map.Free.TheVariants as free
 use Rattle.free_number.specs.Rows.{start, adding}
 use Rattle.free_number.specs.Demand as keeper
 use Rattle.demands.specs.Run.{System, machine_of, runs}
@@ -22,7 +19,7 @@ use Rattle.demands.specs.Ordered.{grown_by, ◌then◌, Ordered, FormsAreSafe, a
 abbrev pub map_of : keeper.Keeper → List Row → Map
 map_of k rows = keeper.after k (adding start (map (form.of Number) rows))
 
-abbrev pub proposed : keeper.Keeper → List Row → Free
+abbrev pub proposed : keeper.Keeper → List Row → Option ℕ
 proposed k rows = k.lowest (map_of k rows)
 
 -- ---- a further row with that number
@@ -45,19 +42,19 @@ LaterThan i (Refused why) = ⊥
 pub record Proposed (k : keeper.Keeper) (check : List Row → Answer) : Type 0 where
   -- a further row with the number that is proposed for an accepted form gives an accepted form, as far as numbers go: it is accepted just if the serial is
   -- new, and with the serial of row i it is that serial which is found fault with
-  pub one_more : (rows : List Row) (n serial : ℕ) → check rows ≡ AllDiffer → proposed k rows ≡ free.Number n
+  pub one_more : (rows : List Row) (n serial : ℕ) → check rows ≡ AllDiffer → proposed k rows ≡ Some n
       → check (further rows serial n) ≡ AllDiffer ↔ IsNew serial rows
-  pub only_serial : (rows : List Row) (n i : ℕ) → check rows ≡ AllDiffer → proposed k rows ≡ free.Number n → i < length rows
+  pub only_serial : (rows : List Row) (n i : ℕ) → check rows ≡ AllDiffer → proposed k rows ≡ Some n → i < length rows
       → check (further rows (form.at Serial rows i) n) ≡ Repeats Serial (length rows) i
   -- of an accepted form the count is that of its rows, and no number is free just if there are 127
   pub heads : (rows : List Row) → check rows ≡ AllDiffer → k.count (map_of k rows) ≡ length rows
-  pub full : (rows : List Row) → check rows ≡ AllDiffer → proposed k rows ≡ free.None ↔ length rows ≡ 127
+  pub full : (rows : List Row) → check rows ≡ AllDiffer → proposed k rows ≡ None ↔ length rows ≡ 127
   -- a form that is sent back for a number has a free one; given to the row that is named, it is sent back for a later row, or is accepted
-  pub has_one : (rows : List Row) (i j : ℕ) → check rows ≡ Repeats Number i j → (n : ℕ) × (proposed k rows ≡ free.Number n)
-  pub mends : (rows : List Row) (i j n : ℕ) → check rows ≡ Repeats Number i j → proposed k rows ≡ free.Number n → LaterThan i (check (renumbered rows i n))
+  pub has_one : (rows : List Row) (i j : ℕ) → check rows ≡ Repeats Number i j → (n : ℕ) × (proposed k rows ≡ Some n)
+  pub mends : (rows : List Row) (i j n : ℕ) → check rows ≡ Repeats Number i j → proposed k rows ≡ Some n → LaterThan i (check (renumbered rows i n))
   -- a line that is grown by an accepted form of 31 rows at most may be grown on by the number that is proposed
   pub grows_on : (m : System) → FormsAreSafe m check → (rows : List Row) (n serial : ℕ) → length rows < 32 → check rows ≡ AllDiffer
-      → proposed k rows ≡ free.Number n → IsNew serial rows → Ordered m (further rows serial n)
+      → proposed k rows ≡ Some n → IsNew serial rows → Ordered m (further rows serial n)
 
 -- it rests on what is promised of the keeper and of the check, and on nothing else
 abbrev pub ProposedRests : Type 0
@@ -70,11 +67,11 @@ mended = renumbered accident 1 1
 
 pub record Mended (m : System) (k : keeper.Keeper) (check : List Row → Answer) : Type 0 where
   pub sent_back : check accident ≡ Repeats Number 1 0
-  pub proposes : proposed k accident ≡ free.Number 1
+  pub proposes : proposed k accident ≡ Some 1
   pub let_pass : check mended ≡ AllDiffer
-  pub replies : (machine_of m).heard (runs (machine_of m) (grown_by mended then asking)) 0x3F 0 10 ≡ heard.Replies 1
+  pub replies : (machine_of m).heard (runs (machine_of m) (grown_by mended then asking)) 0x3F 0 10 ≡ Ok 1
   -- a third row with the number that is proposed then: its serial is new, and the form that it makes is accepted and grows a line
-  pub goes_on : proposed k mended ≡ free.Number 2
+  pub goes_on : proposed k mended ≡ Some 2
   pub is_new : IsNew 4713 mended
   pub three : further mended 4713 2 ≡ record { serial = 4711; node = 31 } ∷ record { serial = 4712; node = 1 } ∷ record { serial = 4713; node = 2 } ∷ []
   pub let_pass_too : check (further mended 4713 2) ≡ AllDiffer

@@ -1,16 +1,15 @@
 -- Racks worked out by hand from the documents (document 02, request (x)), telegram by telegram, and what they come to.
 -- Assumes nothing.
-use Rattle.std.specs.Prelude.{ℕ, ◌≡◌, List, [], ◌∷◌, ◌++◌, map, replicate}
+use Rattle.std.specs.Prelude.{ℕ, ◌≡◌, List, [], ◌∷◌, ◌++◌, map, replicate, Ok, Result}
 use Rattle.effects.specs.Restart.{fresh_of}
-use Rattle.head.specs.declared.calls.Heard.TheVariants.{Replies}
 use Rattle.line.specs.declared.calls.Line.{Line}
-use Rattle.rack.specs.declared.Answer.{Answer}
-use Rattle.rack.specs.declared.Answer.TheVariants.{Laid}
 use Rattle.demands.specs.Run.{System}
 use Rattle.demands.specs.Cases.{split}
 use Rattle.demands.specs.WrongSerials.{in_row}
 use Rattle.demands.specs.WrongStretches.{one}
 use Rattle.demands.specs.Racks.{joined}
+use Rattle.head.specs.declared.refusal.Refusal.{Refusal}
+use Rattle.rack.specs.declared.Tally.{Tally}
 
 -- telegrams, each written as one number, side by side
 abbrev pub telegrams : List ℕ → List ℕ
@@ -24,11 +23,11 @@ abbrev pub twins : Line
 twins = record { heads = in_row 1 32; count = 2 }
 
 -- so many replies laid, and so many collisions
-abbrev pub counted : ℕ → ℕ → Answer
-counted replies collisions = Laid (record { replies = replies; collisions = collisions })
+abbrev pub counted : ℕ → ℕ → Result Tally Refusal
+counted replies collisions = Ok (record { replies = replies; collisions = collisions })
 
 -- a rack at the time 0 of these telegrams, in a space of so many bytes, all 7, from a place on: what it answers, and the space after it
-pub record Comes (m : System) (l : Line) (ts : List ℕ) (n p : ℕ) (answer : Answer) (space : List ℕ) : Type 0 where
+pub record Comes (m : System) (l : Line) (ts : List ℕ) (n p : ℕ) (answer : Result Tally Refusal) (space : List ℕ) : Type 0 where
   pub answers : (m.on_line_of.rack l (telegrams ts) 0 n p).answer ≡ answer
   pub lays : m.on_line_of.rack_space l (telegrams ts) 0 (replicate n 7) p ≡ space
 
@@ -42,5 +41,5 @@ pub record RackCases (m : System) : Type 0 where
   pub renumbered : Comes m apart (0x011F000000000000051B ∷ 0x011FA0000000000009B7 ∷ 0x00050000000000000005 ∷ []) 30 0 (counted 3 0)
       (telegrams (0x011F000000000000051B ∷ 0x011FA0000000000009B7 ∷ 0x00050000000000000500 ∷ []))
   -- nine bytes of a read are dropped by a rack of no telegram, and the tenth draws nothing; without the rack it draws a reply
-  pub dropped : (m.on_line_of.byte (m.on_line_of.rack one [] 0 0 0).line 0x3F 0 10).heard ≡ Replies 0
-  pub gathered : (m.on_line_of.byte one 0x3F 0 10).heard ≡ Replies 1
+  pub dropped : (m.on_line_of.byte (m.on_line_of.rack one [] 0 0 0).line 0x3F 0 10).heard ≡ Ok 0
+  pub gathered : (m.on_line_of.byte one 0x3F 0 10).heard ≡ Ok 1

@@ -3,15 +3,13 @@
 -- place that the caller names; bytes before it and after the last reply keep their content. A collision lays nothing and is counted. Which racks are
 -- refused, and that a refused one does nothing: Demand1, `line_rack` and `rack_same`.
 -- Assumes nothing.
-use Rattle.std.specs.Prelude.{ℕ, zero, suc, ◌+◌, ◌-◌, ◌*◌, ◌%◌, ◌<◌, ◌≤◌, ◌≡◌, List, [], ◌∷◌, ◌++◌, length, take, drop, replicate}
+use Rattle.std.specs.Prelude.{ℕ, zero, suc, ◌+◌, ◌-◌, ◌*◌, ◌%◌, ◌<◌, ◌≤◌, ◌≡◌, List, [], ◌∷◌, ◌++◌, length, take, drop, replicate, Ok, Err, Result}
 use Rattle.state.specs.declared.parts.Head.{Head}
-use Rattle.head.specs.declared.calls.Heard.{Heard}
-use Rattle.head.specs.declared.calls.Heard.TheVariants as heard
 use Rattle.line.specs.declared.calls.Line.{Line}
 use Rattle.line.specs.Calls.{head_at}
-use Rattle.rack.specs.declared.Answer.TheVariants.{Laid}
 use Rattle.demands.specs.Run.{OnLine, System, with_ear}
 use Rattle.demands.specs.Lines.{Fits}
+use Rattle.head.specs.declared.refusal.Refusal.{Refusal}
 
 -- ---- a rack that is not refused: neither 20 nor 15 nor 16
 pub record Taken (l : Line) (bs : List ℕ) (room place : ℕ) : Type 0 where
@@ -28,7 +26,7 @@ fed m l (b ∷ bs) t = fed m (m.byte l b t 10).line bs t
 
 -- and what each drew: the answer to it, and its space
 pub record Drawn : Type 0 where
-  pub heard : Heard
+  pub heard : Result ℕ Refusal
   pub space : List ℕ
 
 abbrev pub drawn : OnLine → Line → List ℕ → ℕ → List Drawn
@@ -36,22 +34,22 @@ drawn m l [] t = []
 drawn m l (b ∷ bs) t = record { heard = (m.byte l b t 10).heard; space = m.space l b t (replicate 10 0) } ∷ drawn m (m.byte l b t 10).line bs t
 
 -- a reply that is alone is laid; of none, and of several at once, nothing is
-abbrev pub lone : Heard → List ℕ → List (List ℕ)
-lone (heard.Replies zero) x = []
-lone (heard.Replies (suc zero)) x = x ∷ []
-lone (heard.Replies (suc (suc n))) x = []
-lone (heard.Refused why) x = []
+abbrev pub lone : Result ℕ Refusal → List ℕ → List (List ℕ)
+lone (Ok zero) x = []
+lone (Ok (suc zero)) x = x ∷ []
+lone (Ok (suc (suc n))) x = []
+lone (Err why) x = []
 
 abbrev pub replies : List Drawn → List (List ℕ)
 replies [] = []
 replies (d ∷ ds) = lone d.heard d.space ++ replies ds
 
 -- two replies or more are one collision, however many heads took part
-abbrev pub collided : Heard → ℕ
-collided (heard.Replies zero) = 0
-collided (heard.Replies (suc zero)) = 0
-collided (heard.Replies (suc (suc n))) = 1
-collided (heard.Refused why) = 0
+abbrev pub collided : Result ℕ Refusal → ℕ
+collided (Ok zero) = 0
+collided (Ok (suc zero)) = 0
+collided (Ok (suc (suc n))) = 1
+collided (Err why) = 0
 
 abbrev pub collisions : List Drawn → ℕ
 collisions [] = 0
@@ -60,7 +58,7 @@ collisions (d ∷ ds) = collided d.heard + collisions ds
 -- no byte was refused; each reply has ten bytes
 abbrev pub AllHeard : List Drawn → Type 0
 AllHeard [] = Unit {0}
-AllHeard (d ∷ ds) = ((n : ℕ) × (d.heard ≡ heard.Replies n)) × AllHeard ds
+AllHeard (d ∷ ds) = ((n : ℕ) × (d.heard ≡ Ok n)) × AllHeard ds
 
 abbrev pub Tens : List (List ℕ) → Type 0
 Tens [] = Unit {0}
@@ -92,7 +90,7 @@ pub record Racks (m : System) : Type 0 where
   pub feeds : (l : Line) (bs : List ℕ) (t n p : ℕ) → Taken l bs n p → (m.on_line_of.rack l bs t n p).line ≡ fed m.on_line_of (emptied m.on_line_of l t) bs t
   pub answers : (l : Line) (bs : List ℕ) (t n p : ℕ) → Taken l bs n p
       → let ds = drawn m.on_line_of (emptied m.on_line_of l t) bs t in
-      (m.on_line_of.rack l bs t n p).answer ≡ Laid (record { replies = length (replies ds); collisions = collisions ds })
+      (m.on_line_of.rack l bs t n p).answer ≡ Ok (record { replies = length (replies ds); collisions = collisions ds })
   pub lays : (l : Line) (bs : List ℕ) (t : ℕ) (space : List ℕ) (p : ℕ) → Taken l bs (length space) p
       → m.on_line_of.rack_space l bs t space p ≡ laid_at p (replies (drawn m.on_line_of (emptied m.on_line_of l t) bs t)) space
   -- no byte of it is refused; each reply has ten bytes, and with the collisions they are as many as the telegrams at most, so that the room suffices

@@ -1,7 +1,7 @@
 -- The calls that a program makes are the product's: what the contract of each call allows is what the system has for it. The demands speak of a
 -- system (Run); this ties it to the code, so that no call can promise something else than the definition that the demands are proved of.
 -- Assumes nothing.
-use Rattle.std.specs.Prelude.{ℕ, ◌≡◌, List, [], ◌∷◌, ℤ, length, take, drop}
+use Rattle.std.specs.Prelude.{ℕ, ◌≡◌, List, [], ◌∷◌, ℤ, map, length, take, drop}
 use seplogic.Ra.Ura.{Ura}
 use base.Logic.{SProp, emp}
 use prog.Memory.{Memory}
@@ -23,6 +23,10 @@ use Rattle.line.specs.Stretch.{until_of, until_space_of}
 use Rattle.head.proofs.calls as head-calls
 use Rattle.head.proofs.refusal as head-refusal
 use Rattle.line.proofs.calls as line-calls
+use Rattle.line.specs.contracts.round as line-round
+use Rattle.line.specs.declared.round.Replies.{Replies}
+use Rattle.line.specs.Round.{tally, replies_by}
+use Rattle.head.specs.Hear.{tell_of}
 use Rattle.rack.proofs as rack
 use Rattle.sheet.specs.declared.reader.SheetReader.{SheetReader}
 use Rattle.sheet.specs.declared.reader.Reading.{Reading}
@@ -206,6 +210,15 @@ pub record RealSheet : Type 2 where
       (e : AtExit sheet-reader.SheetReader.next.ended κs)
       → (sheet-reader.SheetReader.next.clauses 𝓛 mem run κs a).ensures g y e
       ≡ fact 𝓤 ((y ≡ read_of a.0.now.sheet.now a.0.now.row) × (e.0.now ≡ advanced_of a.0.now))
+
+-- What a rack's call is made of, which reads and writes lent heads (line::round): it asks nothing, and each of the heads is told the telegram.
+pub record RealRound : Type 2 where
+  pub asks_nothing : {M : Type 1} {𝓤 : Ura M} (𝓛 : Logic 𝓤) (mem : Memory → SProp 𝓤) (run : Routine → Fun 𝓤) (κs : Lfts 1)
+      (a : Args line-round.told.signature κs) (g : (line-round.told.clauses 𝓛 mem run κs a).ghost) → (line-round.told.clauses 𝓛 mem run κs a).requires g ≡ emp 𝓤
+  pub told : {M : Type 1} {𝓤 : Ura M} (𝓛 : Logic 𝓤) (mem : Memory → SProp 𝓤) (run : Routine → Fun 𝓤) (κs : Lfts 1)
+      (a : Args line-round.told.signature κs) (g : (line-round.told.clauses 𝓛 mem run κs a).ghost) (y : Replies) (e : AtExit line-round.told.ended κs)
+      → (line-round.told.clauses 𝓛 mem run κs a).ensures g y e
+      ≡ fact 𝓤 ((y ≡ tally (replies_by (λ h. tell_of h a.1.0 a.1.1.0) (length a.0.now) a.0.now)) × (e.0.now ≡ map (λ h. (tell_of h a.1.0 a.1.1.0).head) a.0.now))
 
 -- The check of an order form that a program calls is the one that the demands on it are proved of (the crate order_form, Demand).
 pub record RealForm (check : List Row → Answer) : Type 2 where

@@ -3,11 +3,10 @@
 -- always 0. What the call does to a head, part by part, is `Brought` of Alone; that every head goes by its absolute position, Views; that a line's call is that head's alone,
 -- `line_asks` of Demand2.
 -- Assumes nothing.
-use Rattle.std.specs.Prelude.{ℕ, zero, suc, ◌+◌, ◌*◌, ◌<◌, ◌≤◌, ◌≡◌, Bool, true, false, ◌≢◌, List, length, get_or}
+use Rattle.std.specs.Prelude.{ℕ, zero, suc, ◌+◌, ◌*◌, ◌<◌, ◌≤◌, ◌≡◌, Bool, true, false, ◌≢◌, List, length, get_or, Ok}
 use Rattle.std.proofs.Math.Option.{none, some}
 use Rattle.state.specs.declared.parts.Head.{Head}
 use Rattle.state.specs.Older.{older_fits}
-use Rattle.head.specs.declared.calls.Answer.TheVariants.{Done}
 use Rattle.head.specs.Outcome as alone
 use Rattle.line.specs.declared.calls.Line.{Line}
 use Rattle.line.specs.Calls.{fits_of, head_at}
@@ -60,11 +59,11 @@ pub record OneOver (l : Line) (i : ℕ) (k : Line) : Type 0 where
 
 pub record Retired (m : System) : Type 0 where
   -- a head that the old rules allow is taken, and is well-formed then
-  pub takes : (h : Head) → OldFormed h → (m.on_head.ask alone.bring h).answer ≡ Done
+  pub takes : (h : Head) → OldFormed h → (m.on_head.ask alone.bring h).answer ≡ (Ok tt)
   pub formed : (h : Head) → OldFormed h → Formed (m.on_head.ask alone.bring h).head
   -- a line that they allow too, so that several older heads are brought over one after another; once all are, every call takes the line
   pub line_takes : (l : Line) (i : ℕ) → length l.heads ≡ 32 → LineFormed older_fits l → i < l.count
-      → ((m.on_line_of.ask bring l i).answer ≡ Done) × OneOver l i (m.on_line_of.ask bring l i).line
+      → ((m.on_line_of.ask bring l i).answer ≡ (Ok tt)) × OneOver l i (m.on_line_of.ask bring l i).line
   pub all_over : (l : Line) → length l.heads ≡ 32 → LineFormed older_fits l → fits_of (brought_all m.on_line_of l.count l) ≡ true
   -- an older head, and a line with one, is refused with 20 by every other call
   pub alone_refused : (c : alone.Call) (h : Head) → older h ≡ true → brings_alone c ≡ false → refused_alone m.on_head c h ≡ some 20
@@ -79,7 +78,7 @@ pub record Retired (m : System) : Type 0 where
   pub grown_off : (cs : Calls) (k : ℕ) → k < count cs
       → let h = head_at (runs (machine_of m) cs) k in (h.measurement.incremental ≡ false) × (setting h 29 ≡ 0)
   -- a written sheet carries 0 at 35h
-  pub saves : (h : Head) (space : List ℕ) (i : ℕ) → length h.stored.values ≡ 39 → m.on_head.save h (length space) ≡ Done → i < 4
+  pub saves : (h : Head) (space : List ℕ) (i : ℕ) → length h.stored.values ≡ 39 → m.on_head.save h (length space) ≡ (Ok tt) → i < 4
       → get_or (m.on_head.sheet h space) (118 + 4 * 29 + i) 0 ≡ 0
   -- ---- by looking back: the call is an accepted write of 0 to 35h of the head that it names, and of nothing else; it brings no number into force; 35h
   -- is 0 after any calls

@@ -1,18 +1,13 @@
 -- Systems: the calls on a head alone and on a line, the product's own or those of a wrong version (Wrong). The demands are asked of a system, so
 -- that a wrong one can be shown to fail them. Demand 3 asks less of it, a machine, whose heads and lines may be any.
 -- Assumes nothing.
-use Rattle.std.specs.Prelude.{ℕ, zero, suc, Bool, List, [], ◌∷◌, ◌++◌, length, take}
+use Rattle.std.specs.Prelude.{ℕ, zero, suc, Bool, List, [], ◌∷◌, ◌++◌, length, take, Result, ⊤, Ok, Err}
 use Rattle.wire.specs.Telegram.{bytes_of}
 use Rattle.state.specs.declared.parts.Head.{Head}
 use Rattle.state.specs.declared.parts.Ear.{Ear}
 use Rattle.effects.specs.Restart.{empty_ear}
-use Rattle.head.specs.declared.calls.Answer.{Answer}
 use Rattle.head.specs.declared.calls.Called as head-Called
 use Rattle.head.specs.declared.calls.Fed as head-Fed
-use Rattle.head.specs.declared.calls.Heard.{Heard}
-use Rattle.head.specs.declared.calls.Heard.TheVariants as heard
-use Rattle.head.specs.declared.calls.Hit.{Hit}
-use Rattle.head.specs.declared.calls.Serial.{Serial}
 use Rattle.head.specs.Calls as head
 use Rattle.head.specs.Outcome as alone
 use Rattle.line.specs.declared.calls.Line.{Line}
@@ -22,6 +17,7 @@ use Rattle.line.specs.Calls.{empty_of, head_at, fits_of, grow_of, byte_of, byte_
 use Rattle.rack.specs.declared.Racked.{Racked}
 use Rattle.rack.specs.Rack.{rack_of, rack_space_of}
 use Rattle.demands.specs.Calls.{Ask, measure, power, load, bring, Call, new_head, byte, tick, named, keys, dropped, Calls, start, ◌▸◌}
+use Rattle.head.specs.declared.refusal.Refusal.{Refusal}
 
 -- ---- the calls on a head alone: it is made with a node number and a serial number; a byte, by its time and the length of the space lent, and the space after it;
 -- a tick, a measurement, power, a sheet loaded, an older head brought over; what the last damaged telegram was hit by; a key state, by the length of the space lent, and the
@@ -31,12 +27,12 @@ pub record OnHead : Type 0 where
   pub byte : Head → ℕ → ℕ → ℕ → head-Fed.Fed
   pub space : Head → ℕ → ℕ → List ℕ → List ℕ
   pub ask : alone.Ask → Head → head-Called.Called
-  pub hit : Head → Hit
+  pub hit : Head → Result ℕ Refusal
   pub keys : Head → ℕ → ℕ → head-Fed.Fed
   pub key_space : Head → ℕ → List ℕ → List ℕ
-  pub save : Head → ℕ → Answer
+  pub save : Head → ℕ → Result ⊤ Refusal
   pub sheet : Head → List ℕ → List ℕ
-  pub serial : Head → Serial
+  pub serial : Head → Result ℕ Refusal
 
 -- the calls on a line: it is grown by a node number and a serial number; a byte; a tick; a call that names a head; what the last damaged telegram that a head heard
 -- was hit by; a key state of the head that is named; its sheet; its serial number; a rack of telegrams, by its bytes, their time, the length of the
@@ -47,12 +43,12 @@ pub record OnLine : Type 0 where
   pub space : Line → ℕ → ℕ → List ℕ → List ℕ
   pub tick : Line → ℕ → Called
   pub ask : Ask → Line → ℕ → Called
-  pub hit : Line → ℕ → Hit
+  pub hit : Line → ℕ → Result ℕ Refusal
   pub keys : Line → ℕ → ℕ → ℕ → Fed
   pub key_space : Line → ℕ → ℕ → List ℕ → List ℕ
-  pub save : Line → ℕ → ℕ → Answer
+  pub save : Line → ℕ → ℕ → Result ⊤ Refusal
   pub sheet : Line → ℕ → List ℕ → List ℕ
-  pub serial : Line → ℕ → Serial
+  pub serial : Line → ℕ → Result ℕ Refusal
   pub rack : Line → List ℕ → ℕ → ℕ → ℕ → Racked
   pub rack_space : Line → List ℕ → ℕ → List ℕ → ℕ → List ℕ
 
@@ -123,7 +119,7 @@ pub record Machine : Type 1 where
   -- a line with no head; the line after a call; what a byte call returns, by byte, time and length of the space
   pub none : Line
   pub after : Call → Line → Line
-  pub heard : Line → ℕ → ℕ → ℕ → Heard
+  pub heard : Line → ℕ → ℕ → ℕ → Result ℕ Refusal
   -- how many heads it has, whether it is well-formed (no refusal 20), and the head at a place
   pub count : Line → ℕ
   pub fits : Line → Bool
@@ -135,7 +131,7 @@ pub record Machine : Type 1 where
   pub emptied : Head → Head
   -- a byte call on it alone, by byte, time and space lent: the head after it, what it returns, and the space
   pub fed : Head → ℕ → ℕ → List ℕ → Head
-  pub told : Head → ℕ → ℕ → List ℕ → Heard
+  pub told : Head → ℕ → ℕ → List ℕ → Result ℕ Refusal
   pub space : Head → ℕ → ℕ → List ℕ → List ℕ
 
 -- the head with these bytes gathered, and nothing else of it changed
@@ -182,11 +178,11 @@ head_after m cs k = m.head_of (runs m cs) k
 
 -- the replies of bytes put to a head alone, one byte call each, byte i at the time τ i: where a call returns one, it stands in the first ten
 -- bytes of the space; more than one are not just one
-abbrev pub replied : Heard → List ℕ → List (List ℕ)
-replied (heard.Replies zero) x = []
-replied (heard.Replies (suc zero)) x = x ∷ []
-replied (heard.Replies (suc (suc n))) x = x ∷ x ∷ []
-replied (heard.Refused why) x = []
+abbrev pub replied : Result ℕ Refusal → List ℕ → List (List ℕ)
+replied (Ok zero) x = []
+replied (Ok (suc zero)) x = x ∷ []
+replied (Ok (suc (suc n))) x = x ∷ x ∷ []
+replied (Err why) x = []
 
 abbrev pub answers : (m : Machine) → List ℕ → (ℕ → ℕ) → ℕ → m.Head → List ℕ → List (List ℕ)
 answers m [] τ i h s = []

@@ -1,11 +1,10 @@
 -- Serial numbers belong to heads (document 02, request (xi)): a head keeps the one that it was made with through every call, no two heads of a line
 -- share one, and refusal 17 is found from the calls alone, by the account that looks back over them (Past). It is asked of any system.
 -- Assumes nothing.
-use Rattle.std.specs.Prelude.{ℕ, ◌<◌, ◌≤◌, ◌≡◌, ◌≢◌, List, [], ◌∷◌, leb, get_or}
+use Rattle.std.specs.Prelude.{ℕ, ◌<◌, ◌≤◌, ◌≡◌, ◌≢◌, List, [], ◌∷◌, leb, get_or, Ok}
 use Rattle.std.proofs.Math.Option.{none, some}
 use Rattle.rows.specs.Among.{among}
 use Rattle.state.specs.declared.parts.Head.{Head}
-use Rattle.head.specs.declared.calls.Serial.TheVariants as serial
 use Rattle.head.specs.Outcome as alone
 use Rattle.line.specs.declared.calls.Line.{Line}
 use Rattle.line.specs.Calls.{head_at}
@@ -38,8 +37,8 @@ pub record Serials (m : System) : Type 0 where
       → made_with (cs ▸ new_head node serial) (count cs) ≡ serial
   pub stays : (cs : Calls) (c : Call) (k : ℕ) → k < count cs → made_with (cs ▸ c) k ≡ made_with cs k
   -- after any calls on a line grown from none, refused ones included, it is what the call that reads it hands out, on the line and of the head alone
-  pub told : (cs : Calls) (k : ℕ) → k < count cs → m.on_line_of.serial (runs (machine_of m) cs) k ≡ serial.Number (made_with cs k)
-  pub told_alone : (cs : Calls) (k : ℕ) → k < count cs → m.on_head.serial (head_after (machine_of m) cs k) ≡ serial.Number (made_with cs k)
+  pub told : (cs : Calls) (k : ℕ) → k < count cs → m.on_line_of.serial (runs (machine_of m) cs) k ≡ Ok (made_with cs k)
+  pub told_alone : (cs : Calls) (k : ℕ) → k < count cs → m.on_head.serial (head_after (machine_of m) cs k) ≡ Ok (made_with cs k)
   -- and no two are equal
   pub differ : (cs : Calls) (i j : ℕ) → i < count cs → j < count cs → i ≢ j → made_with cs i ≢ made_with cs j
   -- so growing is refused by the calls alone: 17 exactly for a serial number that a head was made with, where neither 2 nor 1 is given

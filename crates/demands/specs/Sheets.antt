@@ -2,7 +2,7 @@
 -- equal then. It is asked of any system; when a call is refused, and that it then changes nothing, is demand 1's, and that loading is an accepted write of
 -- each row stands in the account (Past `loaded`). Bytes are named by their places and limits by their numbers, so that no promise leans on the definitions that it is to hold.
 -- Assumes nothing.
-use Rattle.std.specs.Prelude.{ℕ, ◌+◌, ◌*◌, ◌<◌, ◌≤◌, ◌≡◌, true, ◌≢◌, ◌↔◌, List, length, take, drop, get_or}
+use Rattle.std.specs.Prelude.{ℕ, ◌+◌, ◌*◌, ◌<◌, ◌≤◌, ◌≡◌, true, ◌≢◌, ◌↔◌, List, length, take, drop, get_or, Ok, Err, Result, ⊤}
 use Rattle.std.proofs.Math.Option.{Option, none, some}
 use Rattle.wire.specs.Word.{byte0, byte1, byte2, byte3}
 use Rattle.rows.specs.Table.{row_of, address}
@@ -11,15 +11,12 @@ use Rattle.state.specs.declared.parts.Head.{Head}
 use Rattle.state.specs.Wellformed.{wellformed_of}
 use Rattle.sheet.specs.declared.refusal.Refusal as sheet
 use Rattle.sheet.specs.declared.refusal.Refusal.TheVariants.{Malformed, NotStored, OutOfRow, Short}
-use Rattle.sheet.specs.declared.refusal.Answer as sheet-Answer
-use Rattle.sheet.specs.declared.refusal.Answer.TheVariants as sheet-answer
 use Rattle.sheet.specs.Format.{count_of, address_of, value_of, well_formed_of}
 use Rattle.sheet.specs.Sheet.{Sheet, four}
 use Rattle.sheet.specs.Spelled.{spelled_of, addresses_of, values_of}
 use Rattle.sheet.specs.Refusals as numbers
 use Rattle.sheet.specs.Loading as loading
 use Rattle.sheet.specs.Writing as writing
-use Rattle.head.specs.declared.calls.Answer.TheVariants.{Done}
 use Rattle.head.specs.Outcome as alone
 use Rattle.line.specs.declared.calls.Line.{Line}
 use Rattle.line.specs.Calls.{head_at}
@@ -108,10 +105,10 @@ pub record Typed (h : Head) : Type 0 where
 
 pub record Sheets (m : System) : Type 0 where
   -- a sheet is taken just if it may be loaded, whatever the interlock; the account has it so too
-  pub takes : (h : Head) (s : List ℕ) → wellformed_of h ≡ true → (m.on_head.ask (alone.load s) h).answer ≡ Done ↔ Loadable s
+  pub takes : (h : Head) (s : List ℕ) → wellformed_of h ≡ true → (m.on_head.ask (alone.load s) h).answer ≡ (Ok tt) ↔ Loadable s
   pub account : (s : List ℕ) → loadable s ≡ true ↔ Loadable s
-  pub loads : (h : Head) (s : List ℕ) → (m.on_head.ask (alone.load s) h).answer ≡ Done → Loaded h (m.on_head.ask (alone.load s) h).head s
-  pub saves : (h : Head) (space : List ℕ) → length h.stored.values ≡ 39 → m.on_head.save h (length space) ≡ Done
+  pub loads : (h : Head) (s : List ℕ) → (m.on_head.ask (alone.load s) h).answer ≡ (Ok tt) → Loaded h (m.on_head.ask (alone.load s) h).head s
+  pub saves : (h : Head) (space : List ℕ) → length h.stored.values ≡ 39 → m.on_head.save h (length space) ≡ (Ok tt)
       → Saved h.stored.values space (m.on_head.sheet h space)
   -- on a line, as the head that is named does alone; no other head changes
   pub line_loads : (l : Line) (i : ℕ) (s : List ℕ) → Fits l → i < l.count
@@ -129,15 +126,15 @@ pub record Sheets (m : System) : Type 0 where
       × ((r : ℕ) → r < 39 → ((i : ℕ) → i < count_of s → address_of s i ≢ address (row_of r)) → value (cs ▸ named j (load s)) j r ≡ value cs j r)
   pub counts_not : (cs : Calls) (j : ℕ) (s : List ℕ) → j < count cs → (Loadable s → ⊥) → (r : ℕ) → r < 39 → value (cs ▸ named j (load s)) j r ≡ value cs j r
   -- a written sheet is never refused, and makes the stored values equal, whatever head it is loaded into
-  pub travels : (g h : Head) (space : List ℕ) → Typed g → Typed h → wellformed_of h ≡ true → m.on_head.save g (length space) ≡ Done
+  pub travels : (g h : Head) (space : List ℕ) → Typed g → Typed h → wellformed_of h ≡ true → m.on_head.save g (length space) ≡ (Ok tt)
       → let k = m.on_head.ask (alone.load (take 274 (m.on_head.sheet g space))) h in
-      (k.answer ≡ Done) × (k.head.stored.values ≡ g.stored.values)
+      (k.answer ≡ (Ok tt)) × (k.head.stored.values ≡ g.stored.values)
   -- a head is swapped, on a line grown from none, after any calls: with 274 bytes of space the sheet of head i is written, loading it into head j is
   -- done, and by looking back each stored parameter of head j has then the value of head i's; the number in force stays
   pub swaps : (cs : Calls) (i j : ℕ) (space : List ℕ) → calls.Bytes cs → i < count cs → j < count cs → 274 ≤ length space
       → let l = runs (machine_of m) cs in let s = take 274 (m.on_line_of.sheet l i space) in
-      (m.on_line_of.save l i (length space) ≡ Done)
-      × ((m.on_line_of.ask (load s) l j).answer ≡ Done)
+      (m.on_line_of.save l i (length space) ≡ (Ok tt))
+      × ((m.on_line_of.ask (load s) l j).answer ≡ (Ok tt))
       × ((r : ℕ) → r < 39 → value (cs ▸ named j (load s)) j r ≡ value cs i r)
       × (in_force (cs ▸ named j (load s)) j ≡ in_force cs j)
 
@@ -148,9 +145,9 @@ number_of NotStored = 12
 number_of OutOfRow = 13
 number_of Short = 14
 
-abbrev pub of_sheet : sheet-Answer.Answer → Option ℕ
-of_sheet sheet-answer.Done = none
-of_sheet (sheet-answer.Refused why) = some (number_of why)
+abbrev pub of_sheet : Result ⊤ sheet.Refusal → Option ℕ
+of_sheet (Ok tt) = none
+of_sheet (Err why) = some (number_of why)
 
 pub record Functions : Type 0 where
   pub number : (why : sheet.Refusal) → numbers.refusal_of why ≡ number_of why

@@ -1,9 +1,8 @@
 -- A stretch of bytes on a line: a call that takes the bytes from a place on and has them heard one after another, up to and with the first that draws a
 -- reply. It is asked of any such call, beside the byte call of any system: it is refused as a byte is, and else it is its byte calls.
 -- Assumes nothing.
-use Rattle.std.specs.Prelude.{ℕ, suc, ◌+◌, ◌≤◌, ◌≡◌, List, [], ◌∷◌, length}
+use Rattle.std.specs.Prelude.{ℕ, suc, ◌+◌, ◌≤◌, ◌≡◌, List, [], ◌∷◌, length, Ok}
 use Rattle.std.proofs.Math.Option.{some}
-use Rattle.head.specs.declared.calls.Heard.TheVariants as heard
 use Rattle.line.specs.declared.calls.Line.{Line}
 use Rattle.line.specs.declared.calls.Stretch.{Stretch}
 use Rattle.demands.specs.Calls.{byte}
@@ -26,16 +25,16 @@ pub record Stretches (m : System) (until : Until) (laid : UntilSpace) : Type 0 w
       → ((until l bs from at (length space)).line ≡ l) × ((until l bs from at (length space)).next ≡ from) × (laid l bs at space ≡ space)
   -- where no byte is left, nothing more comes and nothing changes
   pub none : (l : Line) (from at : ℕ) (space : List ℕ) → Fits l → 10 ≤ length space
-      → (until l [] from at (length space) ≡ record { line = l; heard = heard.Replies 0; next = from }) × (laid l [] at space ≡ space)
+      → (until l [] from at (length space) ≡ record { line = l; heard = Ok 0; next = from }) × (laid l [] at space ≡ space)
   -- a byte that draws no reply: it is heard, and then those after it
   pub silent : (l : Line) (b : ℕ) (bs : List ℕ) (from at : ℕ) (space : List ℕ)
       → let k = m.on_line_of.byte l b at (length space) in
-      k.heard ≡ heard.Replies 0
+      k.heard ≡ Ok 0
       → (until l (b ∷ bs) from at (length space) ≡ until k.line bs (from + 1) at (length space))
       × (laid l (b ∷ bs) at space ≡ laid k.line bs at (m.on_line_of.space l b at space))
   -- a byte that draws a reply or several is the last: line, answer and space are those of its call
   pub last : (l : Line) (b : ℕ) (bs : List ℕ) (from at : ℕ) (space : List ℕ) (n : ℕ)
       → let k = m.on_line_of.byte l b at (length space) in
-      k.heard ≡ heard.Replies (suc n)
+      k.heard ≡ Ok (suc n)
       → (until l (b ∷ bs) from at (length space) ≡ record { line = k.line; heard = k.heard; next = from + 1 })
       × (laid l (b ∷ bs) at space ≡ m.on_line_of.space l b at space)

@@ -1,11 +1,10 @@
 -- Demand 3 of a line that takes calls and racks in turn (document 02, request (x)): for the account a rack is one dropping and its byte calls, so every
 -- sentence holds of it. Whether it is taken goes by its lengths alone, and so is found by looking back over the calls.
 -- Assumes nothing.
-use Rattle.std.specs.Prelude.{ℕ, ◌-◌, ◌*◌, ◌%◌, ◌<◌, ◌≤◌, ◌≡◌, Bool, cond, ◌&&◌, List, ◌∷◌, ◌++◌, leb, eqb, length}
+use Rattle.std.specs.Prelude.{ℕ, ◌-◌, ◌*◌, ◌%◌, ◌<◌, ◌≤◌, ◌≡◌, Bool, cond, ◌&&◌, List, ◌∷◌, ◌++◌, leb, eqb, length, Ok}
 use Rattle.line.specs.declared.calls.Line.{Line}
 use Rattle.line.specs.Calls.{empty_of, head_at}
 use Rattle.rack.specs.declared.Tally.{Tally}
-use Rattle.rack.specs.declared.Answer.TheVariants.{Laid}
 use Rattle.demands.specs.Calls.{Call, named, power, dropped, Calls, start, ◌▸◌, Bytes, hearing_at}
 use Rattle.demands.specs.Past.{count, value, in_force}
 use Rattle.demands.specs.Run.{System, after, machine_of, runs}
@@ -54,4 +53,4 @@ pub record InTurns (m : System) : Type 0 where
   -- draws one reply at most
   pub one_reply : (ts : Turns) (bs : List ℕ) (t n p : ℕ) (counts : Tally)
       → ((heard : List ℕ) (b : ℕ) (left : List ℕ) → bs ≡ heard ++ (b ∷ left) → Differ (rack_calls (spread ts) heard t))
-      → (m.on_line_of.rack (line_after m ts) bs t n p).answer ≡ Laid counts → (counts.collisions ≡ 0) × (10 * counts.replies ≤ length bs)
+      → (m.on_line_of.rack (line_after m ts) bs t n p).answer ≡ Ok counts → (counts.collisions ≡ 0) × (10 * counts.replies ≤ length bs)

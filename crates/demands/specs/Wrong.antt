@@ -1,7 +1,7 @@
 -- Wrong versions, each as a system of its own, and that it does not meet the demand: those that document 01 has us try ("Holding the contracts
 -- to the manual"), and others that met an earlier statement of the demands.
 -- Assumes nothing.
-use Rattle.std.specs.Prelude.{ℕ, zero, suc, ◌≡◌, Bool, false, cond, ◌||◌, List, [], ◌∷◌, ◌++◌, eqb, length, take, drop, replicate, set}
+use Rattle.std.specs.Prelude.{ℕ, zero, suc, ◌≡◌, Bool, false, cond, ◌||◌, List, [], ◌∷◌, ◌++◌, eqb, length, take, drop, replicate, set, Err, Ok, Result}
 use Rattle.wire.specs.Telegram.{fields_of, bytes_of}
 use Rattle.state.specs.declared.parts.Head.{Head}
 use Rattle.state.specs.Settings.{value_at, node_place}
@@ -9,11 +9,6 @@ use Rattle.state.specs.With.{with_stored}
 use Rattle.effects.specs.Restart.{empty_ear, restarted_of, fresh_of}
 use Rattle.head.specs.declared.refusal.Refusal.{Refusal}
 use Rattle.head.specs.declared.refusal.Refusal.TheVariants.{Node, OutOfReach}
-use Rattle.head.specs.declared.calls.Heard.{Heard}
-use Rattle.head.specs.declared.calls.Heard.TheVariants as heard
-use Rattle.head.specs.declared.calls.Hit.TheVariants as hit
-use Rattle.head.specs.declared.calls.Serial.TheVariants as serial
-use Rattle.head.specs.declared.calls.Answer.TheVariants as answer
 use Rattle.head.specs.Calls as head
 use Rattle.head.specs.Outcome as alone
 use Rattle.line.specs.declared.calls.Line.{Line}
@@ -32,28 +27,28 @@ refusing why =
     record {
       on_head = record {
         make = λ node serial. head.refused_with (head.factory_of serial) why;
-        byte = λ h b t n. record { head = h; heard = heard.Refused why };
+        byte = λ h b t n. record { head = h; heard = Err why };
         space = λ h b t s. s;
         ask = λ a h. head.refused_with h why;
-        hit = λ h. hit.Refused why;
-        keys = λ h s n. record { head = h; heard = heard.Refused why };
+        hit = λ h. Err why;
+        keys = λ h s n. record { head = h; heard = Err why };
         key_space = λ h s x. x;
-        save = λ h n. answer.Refused why;
+        save = λ h n. Err why;
         sheet = λ h x. x;
-        serial = λ h. serial.Refused why;
+        serial = λ h. Err why;
       };
       on_line_of = record {
         grow = λ l node serial. line.refused_with l why;
-        byte = λ l b t n. record { line = l; heard = heard.Refused why };
+        byte = λ l b t n. record { line = l; heard = Err why };
         space = λ l b t s. s;
         tick = λ l t. line.refused_with l why;
         ask = λ a l j. line.refused_with l why;
-        hit = λ l j. hit.Refused why;
-        keys = λ l j s n. record { line = l; heard = heard.Refused why };
+        hit = λ l j. Err why;
+        keys = λ l j s n. record { line = l; heard = Err why };
         key_space = λ l j s x. x;
-        save = λ l j n. answer.Refused why;
+        save = λ l j n. Err why;
         sheet = λ l j x. x;
-        serial = λ l j. serial.Refused why;
+        serial = λ l j. Err why;
         rack = λ l bs t n p. rack.refused_with l why;
         rack_space = λ l bs t x p. x;
       };
@@ -98,7 +93,7 @@ counting k =
     record {
       on_head = record {
         make = head.made_of;
-        byte = λ h b t n. record { head = (head.byte_of h b t n).head; heard = heard.Replies k };
+        byte = λ h b t n. record { head = (head.byte_of h b t n).head; heard = Ok k };
         space = head.byte_space_of;
         ask = alone.called;
         hit = head.last_hit_of;
@@ -110,7 +105,7 @@ counting k =
       };
       on_line_of = record {
         grow = line.grow_of;
-        byte = λ l b t n. record { line = (line.byte_of l b t n).line; heard = heard.Replies k };
+        byte = λ l b t n. record { line = (line.byte_of l b t n).line; heard = Ok k };
         space = line.byte_space_of;
         tick = line.tick_of;
         ask = ask_of;
@@ -126,11 +121,11 @@ counting k =
     }
 
 -- ---- sends other replies: where just one reply stands in the space, f of it
-abbrev pub respoken : (List ℕ → List ℕ) → Heard → List ℕ → List ℕ
-respoken f (heard.Replies zero) s = s
-respoken f (heard.Replies (suc zero)) s = f (take 10 s) ++ drop 10 s
-respoken f (heard.Replies (suc (suc n))) s = s
-respoken f (heard.Refused why) s = s
+abbrev pub respoken : (List ℕ → List ℕ) → Result ℕ Refusal → List ℕ → List ℕ
+respoken f (Ok zero) s = s
+respoken f (Ok (suc zero)) s = f (take 10 s) ++ drop 10 s
+respoken f (Ok (suc (suc n))) s = s
+respoken f (Err why) s = s
 
 -- alone, and on a line
 abbrev pub head_saying : (List ℕ → List ℕ) → OnHead

@@ -1,15 +1,13 @@
 -- Versions that keep the wrong thing of a damaged telegram (document 02, request (i)), each as a system of its own, and that it does not meet Hits;
 -- that no system whose restart leaves it, or that shows something else, meets Demand2; and that one whose head goes by what it keeps does not meet Unseen.
 -- Assumes nothing.
-use Rattle.std.specs.Prelude.{ℕ, ◌≡◌, cond, List, ltb, eqb, set}
+use Rattle.std.specs.Prelude.{ℕ, ◌≡◌, cond, List, ltb, eqb, set, Ok, is_some}
 use Rattle.wire.specs.Check.{xor_all}
-use Rattle.wire.specs.Telegram.{fields_of}
+use Rattle.wire.specs.Telegram.{fields_of, ten_in}
 use Rattle.judge.specs.Judged.{judged_of}
 use Rattle.state.specs.declared.parts.Head.{Head}
 use Rattle.effects.specs.Restart.{restarted_of, fresh_of}
 use Rattle.head.specs.Hear.{gathered_of, standing_of, restarts_of, tell_of}
-use Rattle.head.specs.declared.calls.Heard.TheVariants as heard
-use Rattle.head.specs.declared.calls.Hit.TheVariants.{Bits}
 use Rattle.head.specs.Calls as head
 use Rattle.head.specs.Outcome as alone
 use Rattle.line.specs.declared.calls.Line.{Line}
@@ -30,7 +28,7 @@ abbrev pub told_by : (Head → List ℕ → ℕ) → Head → List ℕ → ℕ �
 told_by f h ten t = keeping (tell_of h ten t).head (cond (restarts_of (judged_of ten (standing_of h)).deed) 0 (f h ten))
 
 abbrev pub stepped_by : (Head → List ℕ → ℕ) → ℕ → ℕ → Head → Head
-stepped_by f b t h = let g = gathered_of h.ear b t in cond g.whole (told_by f h g.ten t) (with_ear h g.ear)
+stepped_by f b t h = let g = gathered_of h.ear b t in cond (is_some g.ten) (told_by f h (ten_in g.ten) t) (with_ear h g.ear)
 
 abbrev pub line_by : (Head → List ℕ → ℕ) → Line → ℕ → ℕ → ℕ → Line
 line_by f l b t n = cond (ltb n 10) l (record { heads = each (stepped_by f b t) l.count l.heads; count = l.count })
@@ -87,7 +85,7 @@ muted =
       on_head = record {
         make = head.made_of;
         byte = λ h b t n.
-            let f = head.byte_of h b t n in record { head = f.head; heard = cond (eqb h.faults.hit 0) f.heard (heard.Replies 0) };
+            let f = head.byte_of h b t n in record { head = f.head; heard = cond (eqb h.faults.hit 0) f.heard (Ok 0) };
         space = head.byte_space_of;
         ask = alone.called;
         hit = head.last_hit_of;
@@ -113,5 +111,5 @@ pub record WrongHits : Type 0 where
   pub kept_at_power_fails : (m : System) → KeptAtPower m → Demand2 m → ⊥
   pub muted_fails : Unseen muted → ⊥
   -- nothing is shown of what is kept; the first head's is shown for that of the head that is named
-  pub nothing_shown_fails : (m : System) → m.on_head.hit (keeping (fresh_of 31 0) 5) ≡ Bits 0 → Demand2 m → ⊥
+  pub nothing_shown_fails : (m : System) → m.on_head.hit (keeping (fresh_of 31 0) 5) ≡ Ok 0 → Demand2 m → ⊥
   pub first_shown_fails : (m : System) → m.on_line_of.hit pair 1 ≡ m.on_head.hit (fresh_of 31 0) → Demand2 m → ⊥

@@ -1,16 +1,15 @@
 -- Versions that are wrong in Auto-ID (document 02, request (ii)): one as a system of its own, which does not meet Demand3; the others wrong in one call on
 -- a head alone or on a line, whatever the other calls do, and no system that is so meets Demand2, or Offers with it, or OfferUnseen.
 -- Assumes nothing.
-use Rattle.std.specs.Prelude.{ℕ, ◌≡◌, true, cond, ◌≢◌, List, [], ◌∷◌, eqb, set}
+use Rattle.std.specs.Prelude.{ℕ, ◌≡◌, true, cond, ◌≢◌, List, [], ◌∷◌, eqb, set, Ok}
 use Rattle.wire.specs.Check.{hit_of}
-use Rattle.wire.specs.Telegram.{bytes_of, fields_of}
+use Rattle.wire.specs.Telegram.{bytes_of, fields_of, ten_in}
 use Rattle.state.specs.declared.parts.Head.{Head}
 use Rattle.state.specs.Status.{status_of}
 use Rattle.state.specs.declared.parts.Measurement.{Measurement}
 use Rattle.state.specs.With.{with_stored, with_faults, with_measurement, with_keys, with_offer, with_pending}
 use Rattle.effects.specs.Restart.{restarted_of, adopted_of}
 use Rattle.reply.specs.Reply.{adoption_of}
-use Rattle.head.specs.declared.calls.Heard.TheVariants as heard
 use Rattle.head.specs.Hear.{gathered_of}
 use Rattle.head.specs.Moves.{keyed_of}
 use Rattle.head.specs.Calls as head
@@ -55,7 +54,7 @@ eager =
 -- ---- the key state 4 of a head alone: adopts 5 without an offer
 abbrev pub Unoffered : System → Type 0
 Unoffered m =
-    (h : Head) (n : ℕ) → m.on_head.keys h 4 n ≡ record { head = adopted_of (with_stored h (with_offer h.stored 5)); heard = heard.Replies 1 }
+    (h : Head) (n : ℕ) → m.on_head.keys h 4 n ≡ record { head = adopted_of (with_stored h (with_offer h.stored 5)); heard = Ok 1 }
 
 -- switches incremental on as well, as older heads did
 abbrev pub switched_on : Measurement → Measurement
@@ -98,18 +97,18 @@ OfferKept m = (h : Head) → m.on_head.ask alone.power h ≡ head.done_with (wit
 -- ---- drops it at a damaged telegram
 abbrev pub DropsAtNoise : System → Type 0
 DropsAtNoise m =
-    (h : Head) (b t n : ℕ) → hit_of (gathered_of h.ear b t).ten ≢ 0
+    (h : Head) (b t n : ℕ) → hit_of (ten_in (gathered_of h.ear b t).ten) ≢ 0
     → (m.on_head.byte h b t n).head ≡ with_stored (head.byte_of h b t n).head (with_offer (head.byte_of h b t n).head.stored 0)
 
 -- ---- clears the pending error when it is written D2h, refused or not
 abbrev pub ClearsError : System → Type 0
 ClearsError m =
-    (h : Head) (b t n : ℕ) → (fields_of (gathered_of h.ear b t).ten).parameter ≡ 0xD2
+    (h : Head) (b t n : ℕ) → (fields_of (ten_in (gathered_of h.ear b t).ten)).parameter ≡ 0xD2
     → let k = (head.byte_of h b t n).head in (m.on_head.byte h b t n).head ≡ with_faults k (with_pending k.faults 0)
 
 -- ---- answers no telegram while a number is offered
 abbrev pub WaitsMute : System → Type 0
-WaitsMute m = (h : Head) (b t n : ℕ) → (m.on_head.byte h b t n).heard ≡ cond (eqb h.stored.offer 0) (head.byte_of h b t n).heard (heard.Replies 0)
+WaitsMute m = (h : Head) (b t n : ℕ) → (m.on_head.byte h b t n).heard ≡ cond (eqb h.stored.offer 0) (head.byte_of h b t n).heard (Ok 0)
 
 -- ---- a key state of head 1 of a line drops the offer of head 0
 abbrev pub DropsAnothers : System → Type 0

@@ -1,15 +1,13 @@
 -- Versions that are wrong where incremental measurement is retired (document 02, request (xii)), and that they fail what is asked of a system: each is wrong in one call on a head
 -- or on a line, whatever its others do.
 -- Assumes nothing.
-use Rattle.std.specs.Prelude.{ℕ, ◌≡◌, true, false, List, pos, replicate}
+use Rattle.std.specs.Prelude.{ℕ, ◌≡◌, true, false, List, pos, replicate, Ok, Err}
 use Rattle.state.specs.declared.parts.Head.{Head}
 use Rattle.state.specs.declared.parts.Measurement.{Measurement}
 use Rattle.state.specs.Older.{brought_of}
 use Rattle.state.specs.With.{with_measurement, with_targets, with_keys}
 use Rattle.effects.specs.Restart.{empty_ear, restarted_of}
 use Rattle.head.specs.declared.refusal.Refusal.{Refusal}
-use Rattle.head.specs.declared.calls.Answer.TheVariants.{Done, Refused}
-use Rattle.head.specs.declared.calls.Heard.TheVariants.{Replies}
 use Rattle.head.specs.Moves.{keyed_of}
 use Rattle.head.specs.Calls as head
 use Rattle.head.specs.Outcome as alone
@@ -84,20 +82,20 @@ pub record WrongOlder : Type 0 where
   pub restarted_fails : (m : System) → Brings m busy (restarted_of (brought_of busy)) → Demand2 m → ⊥
   pub touched_fails : (m : System) → Brings m left_over_of new → Demand2 m → ⊥
   -- it refuses a line with a second older head; an older head alone; it takes 35h at 2, and a head that there is not
-  pub second_fails : (m : System) (why : Refusal) → (m.on_line_of.ask bring pair 0).answer ≡ Refused why → Demand1 m → ⊥
-  pub refused_fails : (m : System) (why : Refusal) → (m.on_head.ask alone.bring running).answer ≡ Refused why → Demand1 m → ⊥
-  pub beyond_fails : (m : System) → (m.on_head.ask alone.bring (with35 2 new)).answer ≡ Done → Demand1 m → ⊥
-  pub nobody_fails : (m : System) → (m.on_line_of.ask bring pair 3).answer ≡ Done → Demand1 m → ⊥
+  pub second_fails : (m : System) (why : Refusal) → (m.on_line_of.ask bring pair 0).answer ≡ Err why → Demand1 m → ⊥
+  pub refused_fails : (m : System) (why : Refusal) → (m.on_head.ask alone.bring running).answer ≡ Err why → Demand1 m → ⊥
+  pub beyond_fails : (m : System) → (m.on_head.ask alone.bring (with35 2 new)).answer ≡ (Ok tt) → Demand1 m → ⊥
+  pub nobody_fails : (m : System) → (m.on_line_of.ask bring pair 3).answer ≡ (Ok tt) → Demand1 m → ⊥
   -- it brings another head over as well
   pub both_fails : (m : System) → (m.on_line_of.ask bring pair 0).line ≡ (line.bring_of (line.bring_of pair 0).line 1).line → Demand2 m → ⊥
   -- an older head is taken by another call, alone and on a line
-  pub powered_fails : (m : System) → (m.on_head.ask alone.power armed).answer ≡ Done → Demand1 m → ⊥
-  pub heard_fails : (m : System) (n : ℕ) → (m.on_head.byte running 0 0 10).heard ≡ Replies n → Demand1 m → ⊥
-  pub ticked_fails : (m : System) → (m.on_line_of.tick pair 0).answer ≡ Done → Demand1 m → ⊥
+  pub powered_fails : (m : System) → (m.on_head.ask alone.power armed).answer ≡ (Ok tt) → Demand1 m → ⊥
+  pub heard_fails : (m : System) (n : ℕ) → (m.on_head.byte running 0 0 10).heard ≡ Ok n → Demand1 m → ⊥
+  pub ticked_fails : (m : System) → (m.on_line_of.tick pair 0).answer ≡ (Ok tt) → Demand1 m → ⊥
   -- a sheet's 35h 1 is refused, or stored as it stands; a sheet's 35h 2 is taken
-  pub sheet_refused_fails : (m : System) (why : Refusal) → (m.on_head.ask (alone.load one) new).answer ≡ Refused why → Demand1 m → ⊥
+  pub sheet_refused_fails : (m : System) (why : Refusal) → (m.on_head.ask (alone.load one) new).answer ≡ Err why → Demand1 m → ⊥
   pub sheet_stored_fails : (m : System) → m.on_head.ask (alone.load one) new ≡ head.done_with armed → Sheets m → ⊥
-  pub sheet_two_fails : (m : System) → (m.on_head.ask (alone.load two) new).answer ≡ Done → Demand1 m → ⊥
+  pub sheet_two_fails : (m : System) → (m.on_head.ask (alone.load two) new).answer ≡ (Ok tt) → Demand1 m → ⊥
   pub below_fails : (m : System) → Below m → Demand2 m → ⊥
   pub takes_one_fails : (m : System) → TakesOne m → Demand2 m → ⊥
   pub still_switches_fails : (m : System) → StillSwitches m → Demand2 m → ⊥

@@ -1,22 +1,20 @@
 -- Racks that are wrong in one thing, each as a system of its own whose other calls are the product's, and that it does not meet what is asked: laid from 0; a
 -- collision laid; gathered bytes kept; the byte after the last reply changed; 16 before 15; 641 bytes taken; and others.
 -- Assumes nothing.
-use Rattle.std.specs.Prelude.{ℕ, zero, suc, ◌+◌, ◌-◌, ◌%◌, ◌&&◌, List, [], ◌∷◌, ◌++◌, map, leb, eqb, length, take, drop, replicate}
+use Rattle.std.specs.Prelude.{ℕ, zero, suc, ◌+◌, ◌-◌, ◌%◌, ◌&&◌, List, [], ◌∷◌, ◌++◌, map, leb, eqb, length, take, drop, replicate, Ok, Err, Result}
 use Rattle.state.specs.declared.parts.Head.{Head}
 use Rattle.effects.specs.Restart.{empty_ear}
 use Rattle.head.specs.declared.refusal.Refusal.TheVariants.{Malformed, RackLength, RackSpace}
-use Rattle.head.specs.declared.calls.Heard.{Heard}
-use Rattle.head.specs.declared.calls.Heard.TheVariants as heard
 use Rattle.head.specs.Calls.{Tests, guarded}
 use Rattle.line.specs.declared.calls.Line.{Line}
 use Rattle.line.specs.Calls as line
-use Rattle.rack.specs.declared.Answer as rack-answer
-use Rattle.rack.specs.declared.Answer.TheVariants as answer
 use Rattle.rack.specs.declared.Racked.{Racked}
 use Rattle.rack.specs.Rack as rack
 use Rattle.demands.specs.Run.{System, product, ask_of, with_ear}
 use Rattle.demands.specs.Demand1.{Demand1}
 use Rattle.demands.specs.Racks.{joined, Racks}
+use Rattle.head.specs.declared.refusal.Refusal.{Refusal}
+use Rattle.rack.specs.declared.Tally.{Tally}
 
 -- the product with another rack
 abbrev pub racking : (Line → List ℕ → ℕ → ℕ → ℕ → Racked) → (Line → List ℕ → ℕ → List ℕ → ℕ → List ℕ) → System
@@ -58,26 +56,26 @@ laying lay =
     (λ l bs t s p. guarded (λ why. s) (rack.rack_tests l (length bs) (length s) p) (lay (rack.fed_of (rack.dropped_of l t) bs t).laid p s))
 
 -- ---- what is fed where a byte draws something else than it should
-abbrev pub fed_by : (Heard → List ℕ → rack.Fed → rack.Fed) → Line → List ℕ → ℕ → rack.Fed
+abbrev pub fed_by : (Result ℕ Refusal → List ℕ → rack.Fed → rack.Fed) → Line → List ℕ → ℕ → rack.Fed
 fed_by draw l [] t = record { line = l; laid = []; collisions = 0 }
 fed_by draw l (b ∷ bs) t =
     let c = line.byte_of l b t 10 in draw c.heard (line.byte_space_of l b t (replicate 10 0)) (fed_by draw c.line bs t)
 
-abbrev pub drawing : (Heard → List ℕ → rack.Fed → rack.Fed) → System
+abbrev pub drawing : (Result ℕ Refusal → List ℕ → rack.Fed → rack.Fed) → System
 drawing draw = feeding (λ l bs t. fed_by draw (rack.dropped_of l t) bs t)
 
 -- a collision lays ten bytes that nobody sent, and is not counted
-abbrev pub laying_all : Heard → List ℕ → rack.Fed → rack.Fed
-laying_all (heard.Replies zero) ten f = f
-laying_all (heard.Replies (suc n)) ten f = record { line = f.line; laid = ten ∷ f.laid; collisions = f.collisions }
-laying_all (heard.Refused why) ten f = f
+abbrev pub laying_all : Result ℕ Refusal → List ℕ → rack.Fed → rack.Fed
+laying_all (Ok zero) ten f = f
+laying_all (Ok (suc n)) ten f = record { line = f.line; laid = ten ∷ f.laid; collisions = f.collisions }
+laying_all (Err why) ten f = f
 
 -- a collision counts for each head that took part
-abbrev pub counting_heads : Heard → List ℕ → rack.Fed → rack.Fed
-counting_heads (heard.Replies zero) ten f = f
-counting_heads (heard.Replies (suc zero)) ten f = record { line = f.line; laid = ten ∷ f.laid; collisions = f.collisions }
-counting_heads (heard.Replies (suc (suc n))) ten f = record { line = f.line; laid = f.laid; collisions = suc (suc n) + f.collisions }
-counting_heads (heard.Refused why) ten f = f
+abbrev pub counting_heads : Result ℕ Refusal → List ℕ → rack.Fed → rack.Fed
+counting_heads (Ok zero) ten f = f
+counting_heads (Ok (suc zero)) ten f = record { line = f.line; laid = ten ∷ f.laid; collisions = f.collisions }
+counting_heads (Ok (suc (suc n))) ten f = record { line = f.line; laid = f.laid; collisions = suc (suc n) + f.collisions }
+counting_heads (Err why) ten f = f
 
 -- ---- the gathered bytes are kept; a rack that is refused drops them all the same
 abbrev pub keeping : System
@@ -126,9 +124,9 @@ uncounted l bs t = let f = rack.fed_of (rack.dropped_of l t) bs t in record { li
 abbrev pub swap : Racked → Racked
 swap r = record { line = r.line; answer = swapped r.answer }
   where
-    swapped : rack-answer.Answer → rack-answer.Answer
-    swapped (answer.Laid counts) = answer.Laid (record { replies = counts.collisions; collisions = counts.replies })
-    swapped (answer.Refused why) = answer.Refused why
+    swapped : Result Tally Refusal → Result Tally Refusal
+    swapped (Ok counts) = Ok (record { replies = counts.collisions; collisions = counts.replies })
+    swapped (Err why) = Err why
 
 abbrev pub swapping : System
 swapping = racking (λ l bs t n p. swap (rack.rack_of l bs t n p)) rack.rack_space_of

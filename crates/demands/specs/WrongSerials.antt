@@ -1,13 +1,12 @@
 -- Versions that are wrong in a serial number (document 02, request (xi)), each in one call, whatever else it does, and that it does not meet what is
 -- asked of a system.
 -- Assumes nothing.
-use Rattle.std.specs.Prelude.{ℕ, zero, suc, ◌≡◌, List, [], ◌∷◌, replicate}
+use Rattle.std.specs.Prelude.{ℕ, zero, suc, ◌≡◌, List, [], ◌∷◌, replicate, Ok}
 use Rattle.std.proofs.Math.Option.{none, some}
 use Rattle.state.specs.declared.parts.Head.{Head}
 use Rattle.state.specs.With.{with_stored, with_offer}
 use Rattle.effects.specs.Restart.{fresh_of}
 use Rattle.sheet.specs.Writing.{sheet_of}
-use Rattle.head.specs.declared.calls.Serial.TheVariants.{Number}
 use Rattle.head.specs.Calls.{factory_of}
 use Rattle.head.specs.Outcome as alone
 use Rattle.line.specs.declared.calls.Line.{Line}
@@ -70,5 +69,5 @@ pub record WrongSerials : Type 0 where
   pub adoption_clears_fails : (m : System) → serial_of (after_up m) ≡ 0 → Serials m → ⊥
   -- the factory head of refusal 1 has 0 for the one given; the node number is handed out for it; that of the first head for that of the one that is named
   pub factory_bare_fails : (m : System) → (m.on_head.make 0 7).head ≡ factory_of 0 → Serials m → ⊥
-  pub number_told_fails : (m : System) → m.on_head.serial seven ≡ Number 31 → Demand2 m → ⊥
-  pub first_told_fails : (m : System) → m.on_line_of.serial full 31 ≡ Number 1 → Demand2 m → ⊥
+  pub number_told_fails : (m : System) → m.on_head.serial seven ≡ Ok 31 → Demand2 m → ⊥
+  pub first_told_fails : (m : System) → m.on_line_of.serial full 31 ≡ Ok 1 → Demand2 m → ⊥

@@ -1,14 +1,13 @@
 -- Versions that are wrong in a sheet, and that they fail what is asked of a system: each is wrong in one call on a new head, or on a line of two,
 -- whatever its others do.
 -- Assumes nothing.
-use Rattle.std.specs.Prelude.{ℕ, ◌≡◌, true, List, [], ◌∷◌, ◌++◌, replicate, take, set}
+use Rattle.std.specs.Prelude.{ℕ, ◌≡◌, true, List, [], ◌∷◌, ◌++◌, replicate, take, set, Ok, Err}
 use Rattle.state.specs.declared.parts.Head.{Head}
 use Rattle.state.specs.With.{with_stored, with_values, with_lock, with_offer}
 use Rattle.effects.specs.Restart.{empty_ear, restarted_of, fresh_of}
 use Rattle.sheet.specs.declared.refusal.Refusal.TheVariants.{OutOfRow}
 use Rattle.head.specs.declared.refusal.Refusal.{Refusal}
 use Rattle.head.specs.declared.refusal.Refusal.TheVariants.{Sheet}
-use Rattle.head.specs.declared.calls.Answer.TheVariants.{Done, Refused}
 use Rattle.head.specs.Calls as head
 use Rattle.head.specs.Outcome as alone
 use Rattle.line.specs.declared.calls.Line.{Line}
@@ -27,10 +26,10 @@ locked = with_stored new (with_values new.stored (set new.stored.values 14 1))
 
 -- ---- a sheet is taken, or refused for this, by the head h
 abbrev pub Takes : System → Head → List ℕ → Type 0
-Takes m h s = (m.on_head.ask (alone.load s) h).answer ≡ Done
+Takes m h s = (m.on_head.ask (alone.load s) h).answer ≡ (Ok tt)
 
 abbrev pub Refuses : System → Head → List ℕ → Refusal → Type 0
-Refuses m h s why = (m.on_head.ask (alone.load s) h).answer ≡ Refused why
+Refuses m h s why = (m.on_head.ask (alone.load s) h).answer ≡ Err why
 
 -- the body of 04h a byte further than it stands; 04h twice; a byte after the last body; no byte; no row
 abbrev pub later : List ℕ
@@ -59,7 +58,7 @@ five = split 8 0x0100000400000005
 
 -- ---- the first row of a refused sheet is loaded all the same
 abbrev pub Half : System → Type 0
-Half m = m.on_head.ask (alone.load half) new ≡ record { head = head.loaded_of new (split 8 0x0104000400000007); answer = Refused (Sheet OutOfRow) }
+Half m = m.on_head.ask (alone.load half) new ≡ record { head = head.loaded_of new (split 8 0x0104000400000007); answer = Err (Sheet OutOfRow) }
 
 -- ---- a sheet is loaded, and something else of the head changes: all that a restart changes, so that 00h is in force at once; the interlock; the bytes gathered; the
 -- offer; or nothing at all is loaded
@@ -103,9 +102,9 @@ pub record WrongSheets : Type 0 where
   pub ungathered_fails : (m : System) → Loads m nine gathering (with_ear (head.loaded_of gathering nine) (empty_ear 0)) → Sheets m → ⊥
   pub withdrawn_fails : (m : System) → Loads m nine offered (with_stored offered (with_offer (head.loaded_of offered nine).stored 0)) → Sheets m → ⊥
   pub idle_fails : (m : System) → Loads m nine new new → Sheets m → ⊥
-  pub short_fails : (m : System) → m.on_head.save new 273 ≡ Done → Demand1 m → ⊥
-  pub long_fails : (m : System) (why : Refusal) → m.on_head.save new 274 ≡ Refused why → Demand1 m → ⊥
-  pub overrun_fails : (m : System) → m.on_head.save new 275 ≡ Done → overrun m → Sheets m → ⊥
-  pub low_first_fails : (m : System) → m.on_head.save new 274 ≡ Done → low_first m → Sheets m → ⊥
-  pub few_rows_fails : (m : System) → m.on_head.save new 274 ≡ Done → few_rows m → Sheets m → ⊥
-  pub first_saved_fails : (m : System) → m.on_head.save new 274 ≡ Done → m.on_head.save (fresh_of 12 1) 274 ≡ Done → first_saved m → Sheets m → ⊥
+  pub short_fails : (m : System) → m.on_head.save new 273 ≡ (Ok tt) → Demand1 m → ⊥
+  pub long_fails : (m : System) (why : Refusal) → m.on_head.save new 274 ≡ Err why → Demand1 m → ⊥
+  pub overrun_fails : (m : System) → m.on_head.save new 275 ≡ (Ok tt) → overrun m → Sheets m → ⊥
+  pub low_first_fails : (m : System) → m.on_head.save new 274 ≡ (Ok tt) → low_first m → Sheets m → ⊥
+  pub few_rows_fails : (m : System) → m.on_head.save new 274 ≡ (Ok tt) → few_rows m → Sheets m → ⊥
+  pub first_saved_fails : (m : System) → m.on_head.save new 274 ≡ (Ok tt) → m.on_head.save (fresh_of 12 1) 274 ≡ (Ok tt) → first_saved m → Sheets m → ⊥

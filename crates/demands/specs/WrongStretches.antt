@@ -1,9 +1,8 @@
 -- Stretches of bytes that are wrong in one answer, whatever else they give, and that they are not what is asked for beside the product's byte calls.
 -- Assumes nothing.
-use Rattle.std.specs.Prelude.{ℕ, ◌≡◌, [], ◌∷◌, replicate}
+use Rattle.std.specs.Prelude.{ℕ, ◌≡◌, [], ◌∷◌, replicate, Ok}
 use Rattle.state.specs.declared.parts.Head.{Head}
 use Rattle.effects.specs.Restart.{fresh_of}
-use Rattle.head.specs.declared.calls.Heard.TheVariants as heard
 use Rattle.line.specs.declared.calls.Line.{Line}
 use Rattle.demands.specs.Run.{product}
 use Rattle.demands.specs.Cases.{split, gathered}
@@ -25,7 +24,7 @@ Refuted Wrong = (until : Until) (laid : UntilSpace) → Wrong until laid → Str
 
 pub record WrongStretches : Type 0 where
   -- of three replies to one byte two are told; one of them is laid
-  pub capped_fails : Refuted (λ until laid. (until three (0x3F ∷ []) 0 0 10).heard ≡ heard.Replies 2)
+  pub capped_fails : Refuted (λ until laid. (until three (0x3F ∷ []) 0 0 10).heard ≡ Ok 2)
   pub laid_fails : Refuted (λ until laid. laid three (0x3F ∷ []) 0 (replicate 10 7) ≡ split 10 0x001F200000000000053A)
   -- a byte is heard after the one that drew a reply; none is heard after one that drew none
   pub past_fails : Refuted (λ until laid. (until one (0x3F ∷ 0x00 ∷ []) 0 0 10).next ≡ 2)

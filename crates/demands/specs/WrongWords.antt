@@ -1,12 +1,11 @@
 -- Versions that are wrong in the status word of a reply (document 02, request (iii)): each hears as it should and sends the reply that it should, but for
 -- that word, whatever its other calls do; and no system that is so meets Demand2.
 -- Assumes nothing.
-use Rattle.std.specs.Prelude.{ℕ, ◌≡◌, Bool, cond, not, ◌&&◌, List, ◌++◌, eqb, length, take, drop}
+use Rattle.std.specs.Prelude.{ℕ, ◌≡◌, Bool, cond, not, ◌&&◌, List, ◌++◌, eqb, length, take, drop, Ok}
 use Rattle.wire.specs.declared.telegram.Telegram.{Telegram}
-use Rattle.wire.specs.Telegram.{bytes_of, fields_of}
+use Rattle.wire.specs.Telegram.{bytes_of, fields_of, ten_in}
 use Rattle.state.specs.declared.parts.Head.{Head}
 use Rattle.state.specs.Status.{status_of}
-use Rattle.head.specs.declared.calls.Heard.TheVariants as heard
 use Rattle.head.specs.Hear.{gathered_of}
 use Rattle.head.specs.Calls as head
 use Rattle.demands.specs.Run.{System}
@@ -23,13 +22,13 @@ with_word x w = record { command = x.command; node = x.node; parameter = x.param
 -- the space with the right reply in it, but for its status word
 abbrev pub reworded : Wording → Head → ℕ → ℕ → List ℕ → List ℕ
 reworded f h b t space =
-    let asked = fields_of (gathered_of h.ear b t).ten in
+    let asked = fields_of (ten_in (gathered_of h.ear b t).ten) in
     let x = fields_of (take 10 (head.byte_space_of h b t space)) in
     bytes_of (with_word x (f asked x h (head.byte_of h b t (length space)).head)) ++ drop 10 space
 
 pub record Says (f : Wording) (m : System) : Type 0 where
   pub hears : (h : Head) (b t n : ℕ) → m.on_head.byte h b t n ≡ head.byte_of h b t n
-  pub lays : (h : Head) (b t : ℕ) (space : List ℕ) → (head.byte_of h b t (length space)).heard ≡ heard.Replies 1
+  pub lays : (h : Head) (b t : ℕ) (space : List ℕ) → (head.byte_of h b t (length space)).heard ≡ Ok 1
       → m.on_head.space h b t space ≡ reworded f h b t space
 
 -- the word of before in every reply, which was document 01's reading; the word of after in every reply

@@ -2,10 +2,9 @@
 ghost use Rattle.std.specs.Prelude.{◌≡◌, Bool};
 ghost use Rattle.effects.specs.Aimed.{no_targets, settled_of, first_aimed, second_aimed, given_of, lacking_of, all_given_of, cleared_of, stays_of, turned_of, targets_by};
 
-use crate::control;
 use judge::deed::Deed;
 use state::parts::{Measurement, Setting, Targets};
-use state::{mode, status};
+use state::{control, mode, status};
 
 // No set point, as after a restart.
 #[tactic(auto, unfolding(crate::specs::Aimed::no_targets))]
@@ -29,10 +28,10 @@ pub fn no_targets() -> Targets
 pub fn settled(values: [u32; 39], g: Measurement, t: Targets) -> Targets
     ensures { result ≡ settled_of values g t }
 {
-    let near = status::within(values, g, t);
-    let mut n = t;
-    n.reached = n.reached | near;
-    n
+    Targets {
+        reached: t.reached || status::within(values, g, t),
+        ..t
+    }
 }
 
 // FBh: the value, its validity by bit 2, the static bit cleared by bit 4, the acknowledgement withdrawn.
@@ -40,13 +39,14 @@ pub fn settled(values: [u32; 39], g: Measurement, t: Targets) -> Targets
 fn aim_first(value: u32, word: u16, t: Targets) -> Targets
     ensures { result ≡ first_aimed value word t }
 {
-    let mut n = t;
-    n.first = value;
-    n.valid1 = control::bit(word, 2);
-    n.word = word;
-    n.reached = n.reached & !control::bit(word, 4);
-    n.acknowledged1 = false;
-    n
+    Targets {
+        first: value,
+        valid1: control::bit(word, 2),
+        word,
+        reached: t.reached && !control::bit(word, 4),
+        acknowledged1: false,
+        ..t
+    }
 }
 
 // FFh: the value, its validity by bit 9, the static bit cleared by bit 4, the acknowledgement withdrawn.
@@ -54,13 +54,14 @@ fn aim_first(value: u32, word: u16, t: Targets) -> Targets
 fn aim_second(value: u32, word: u16, t: Targets) -> Targets
     ensures { result ≡ second_aimed value word t }
 {
-    let mut n = t;
-    n.second = value;
-    n.valid2 = control::bit(word, 9);
-    n.word = word;
-    n.reached = n.reached & !control::bit(word, 4);
-    n.acknowledged2 = false;
-    n
+    Targets {
+        second: value,
+        valid2: control::bit(word, 9),
+        word,
+        reached: t.reached && !control::bit(word, 4),
+        acknowledged2: false,
+        ..t
+    }
 }
 
 // Then bits 10 and 6 acknowledge set points 1 and 2 where they are valid. Nothing is acknowledged but in alpha-numeric display.
@@ -68,10 +69,11 @@ fn aim_second(value: u32, word: u16, t: Targets) -> Targets
 fn given(display: bool, word: u16, t: Targets) -> Targets
     ensures { result ≡ given_of display word t }
 {
-    let mut n = t;
-    n.acknowledged1 = display & (n.acknowledged1 | (control::bit(word, 10) & n.valid1));
-    n.acknowledged2 = display & (n.acknowledged2 | (control::bit(word, 6) & n.valid2));
-    n
+    Targets {
+        acknowledged1: display && (t.acknowledged1 || (control::bit(word, 10) && t.valid1)),
+        acknowledged2: display && (t.acknowledged2 || (control::bit(word, 6) && t.valid2)),
+        ..t
+    }
 }
 
 // Whether a valid set point lacks its acknowledgement.
@@ -79,7 +81,7 @@ fn given(display: bool, word: u16, t: Targets) -> Targets
 pub fn lacking(t: Targets) -> bool
     ensures { result ≡ lacking_of t }
 {
-    (t.valid1 & !t.acknowledged1) | (t.valid2 & !t.acknowledged2)
+    (t.valid1 && !t.acknowledged1) || (t.valid2 && !t.acknowledged2)
 }
 
 // All valid set points are acknowledged, as a key does it.
@@ -87,19 +89,21 @@ pub fn lacking(t: Targets) -> bool
 pub fn all_given(t: Targets) -> Targets
     ensures { result ≡ all_given_of t }
 {
-    let mut n = t;
-    n.acknowledged1 = n.acknowledged1 | n.valid1;
-    n.acknowledged2 = n.acknowledged2 | n.valid2;
-    n
+    Targets {
+        acknowledged1: t.acknowledged1 || t.valid1,
+        acknowledged2: t.acknowledged2 || t.valid2,
+        ..t
+    }
 }
 
 #[tactic(auto, unfolding(crate::specs::Aimed::cleared_of))]
 fn cleared(t: Targets) -> Targets
     ensures { result ≡ cleared_of t }
 {
-    let mut n = t;
-    n.reached = false;
-    n
+    Targets {
+        reached: false,
+        ..t
+    }
 }
 
 // Whether alpha-numeric display is neither entered nor left, by 28h before and after.
@@ -107,10 +111,7 @@ fn cleared(t: Targets) -> Targets
 fn stays(before: u32, after: u32) -> bool
     ensures { result ≡ stays_of before after }
 {
-    if mode::is_display(before) {
-        return mode::is_display(after);
-    }
-    !mode::is_display(after)
+    mode::is_display(before) == mode::is_display(after)
 }
 
 // By 28h before and after a write, a reset or a sheet: entering or leaving alpha-numeric display leaves no set point valid or acknowledged, and no
@@ -119,14 +120,18 @@ fn stays(before: u32, after: u32) -> bool
 pub fn turned(before: u32, after: u32, t: Targets) -> Targets
     ensures { result ≡ turned_of before after t }
 {
-    let stays = stays(before, after);
-    let mut n = t;
-    n.valid1 = stays & n.valid1;
-    n.valid2 = stays & n.valid2;
-    n.reached = stays & n.reached;
-    n.acknowledged1 = stays & n.acknowledged1;
-    n.acknowledged2 = stays & n.acknowledged2;
-    n
+    if stays(before, after) {
+        t
+    } else {
+        Targets {
+            valid1: false,
+            valid2: false,
+            reached: false,
+            acknowledged1: false,
+            acknowledged2: false,
+            ..t
+        }
+    }
 }
 
 #[tactic(auto, unfolding(crate::specs::Aimed::targets_by))]
@@ -137,8 +142,7 @@ pub fn targets_by(d: Deed, values: [u32; 39], g: Measurement, t: Targets) -> Tar
     match d {
         Deed::Aim1(value, word) => given(display, word, aim_first(value, word, t)),
         Deed::Aim2(value, word) => {
-            let n = given(display, word, aim_second(value, word, t));
-            settled(values, g, n)
+            settled(values, g, given(display, word, aim_second(value, word, t)))
         }
         Deed::ClearStatic => cleared(t),
         _ => t,

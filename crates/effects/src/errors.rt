@@ -2,11 +2,10 @@
 ghost use Rattle.std.specs.Prelude.{◌≡◌, Bool};
 ghost use Rattle.effects.specs.Faults.{raised_of, counted_of, complained_of, acknowledged_of, restarted_faults, faults_by};
 
-use crate::control;
 use judge::deed::Deed;
 use judge::verdict::Verdict;
-use state::errors;
 use state::parts::Faults;
+use state::{control, errors};
 use wire::fault::Fault;
 
 // A raised error becomes the pending one and enters the error memory.
@@ -14,11 +13,11 @@ use wire::fault::Fault;
 pub fn raised(f: Faults, code: u16) -> Faults
     ensures { result ≡ raised_of f code }
 {
-    let mut n = f;
-    let l = errors::remembered(n.memory, code);
-    n.memory = l;
-    n.pending = code;
-    n
+    Faults {
+        memory: errors::remembered(f.memory, code),
+        pending: code,
+        ..f
+    }
 }
 
 // A telegram by the exclusive-or of its ten bytes: a sound one ends the row of damaged ones. A damaged one's is kept in the place of the last,
@@ -27,18 +26,22 @@ pub fn raised(f: Faults, code: u16) -> Faults
 pub fn counted(hit: u8, f: Faults) -> Faults
     ensures { result ≡ counted_of hit f }
 {
-    let mut n = f;
     if hit == 0 {
-        n.damaged = 0;
-        return n;
+        Faults { damaged: 0, ..f }
+    } else if f.damaged < 2 {
+        Faults {
+            hit,
+            damaged: f.damaged + 1,
+            ..f
+        }
+    } else {
+        let n = Faults {
+            hit,
+            damaged: 0,
+            ..f
+        };
+        raised(n, Fault::CheckSum.code())
     }
-    n.hit = hit;
-    if n.damaged < 2 {
-        n.damaged = n.damaged + 1;
-        return n;
-    }
-    n.damaged = 0;
-    raised(n, Fault::CHECK_SUM)
 }
 
 // Every error reply enters the input list.
@@ -47,14 +50,11 @@ pub fn complained(v: Verdict, f: Faults) -> Faults
     ensures { result ≡ complained_of v f }
 {
     match v {
-        Verdict::Obeyed => f,
-        Verdict::Silent => f,
-        Verdict::Refused(fault) => {
-            let mut n = f;
-            let l = errors::remembered(n.inputs, fault.code());
-            n.inputs = l;
-            n
-        }
+        Verdict::Refused(fault) => Faults {
+            inputs: errors::remembered(f.inputs, fault.code()),
+            ..f
+        },
+        _ => f,
     }
 }
 
@@ -63,11 +63,11 @@ pub fn complained(v: Verdict, f: Faults) -> Faults
 fn acknowledged(word: u16, last: u16, f: Faults) -> Faults
     ensures { result ≡ acknowledged_of word last f }
 {
-    let mut n = f;
-    if control::bit(word, 5) & !control::bit(last, 5) {
-        n.pending = 0;
+    if control::bit(word, 5) && !control::bit(last, 5) {
+        Faults { pending: 0, ..f }
+    } else {
+        f
     }
-    n
 }
 
 // A restart keeps the error memory alone.
@@ -75,13 +75,13 @@ fn acknowledged(word: u16, last: u16, f: Faults) -> Faults
 pub fn restarted(f: Faults) -> Faults
     ensures { result ≡ restarted_faults f }
 {
-    let mut n = f;
-    let l = errors::empty_list();
-    n.inputs = l;
-    n.pending = 0;
-    n.hit = 0;
-    n.damaged = 0;
-    n
+    Faults {
+        memory: f.memory,
+        inputs: errors::empty_list(),
+        pending: 0,
+        hit: 0,
+        damaged: 0,
+    }
 }
 
 // `last` is the control word that was taken before.
@@ -90,14 +90,11 @@ pub fn faults_by(d: Deed, last: u16, f: Faults) -> Faults
     ensures { result ≡ faults_by d last f }
 {
     match d {
-        Deed::Forget => {
-            let mut n = f;
-            let l = errors::empty_list();
-            n.memory = l;
-            n
-        }
-        Deed::Aim1(_, word) => acknowledged(word, last, f),
-        Deed::Aim2(_, word) => acknowledged(word, last, f),
+        Deed::Forget => Faults {
+            memory: errors::empty_list(),
+            ..f
+        },
+        Deed::Aim1(_, word) | Deed::Aim2(_, word) => acknowledged(word, last, f),
         _ => f,
     }
 }

@@ -2,7 +2,6 @@
 #![tactic(auto)]
 
 pub mod aim;
-mod control;
 pub mod errors;
 pub mod measure;
 pub mod restart;

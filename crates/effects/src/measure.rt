@@ -11,11 +11,11 @@ use state::position;
 pub fn calibrated(values: [u32; 39], g: Measurement) -> Measurement
     ensures { result ≡ calibrated_of values g }
 {
-    let m = g.m;
-    let mut n = g;
-    n.zero = m;
-    n.adopted = values[Setting::CALIBRATION];
-    n
+    Measurement {
+        zero: g.m,
+        adopted: values[Setting::CALIBRATION],
+        ..g
+    }
 }
 
 // What FEh shows is kept.
@@ -23,22 +23,22 @@ pub fn calibrated(values: [u32; 39], g: Measurement) -> Measurement
 fn frozen(values: [u32; 39], g: Measurement) -> Measurement
     ensures { result ≡ frozen_of values g }
 {
-    let w = position::view(values, g);
-    let kept = w.shown;
-    let mut n = g;
-    n.frozen = true;
-    n.kept = kept;
-    n
+    Measurement {
+        frozen: true,
+        kept: position::view(values, g).shown,
+        ..g
+    }
 }
 
 #[tactic(auto, unfolding(crate::specs::Measured::released_of))]
 fn released(g: Measurement) -> Measurement
     ensures { result ≡ released_of g }
 {
-    let mut n = g;
-    n.frozen = false;
-    n.kept = 0;
-    n
+    Measurement {
+        frozen: false,
+        kept: 0,
+        ..g
+    }
 }
 
 // A restart keeps calibration and the last measurement.
@@ -46,10 +46,11 @@ fn released(g: Measurement) -> Measurement
 pub fn restarted(g: Measurement) -> Measurement
     ensures { result ≡ restarted_measurement g }
 {
-    let mut n = released(g);
-    n.incremental = false;
-    n.start = 0;
-    n
+    Measurement {
+        incremental: false,
+        start: 0,
+        ..released(g)
+    }
 }
 
 // A new measurement.
@@ -57,9 +58,7 @@ pub fn restarted(g: Measurement) -> Measurement
 pub fn moved(m: i32, g: Measurement) -> Measurement
     ensures { result ≡ moved_of m g }
 {
-    let mut n = g;
-    n.m = m;
-    n
+    Measurement { m, ..g }
 }
 
 #[tactic(auto, unfolding(crate::specs::Measured::measurement_by))]

@@ -13,7 +13,7 @@ pub fn empty_ear(at: u32) -> Ear
     Ear {
         bytes: [0u8; 10],
         count: 0,
-        at: at,
+        at,
     }
 }
 
@@ -49,9 +49,10 @@ pub fn restarted(h: Head) -> Head
 pub fn adopted(h: Head) -> Head
     ensures { result ≡ adopted_of h }
 {
-    let mut n = h;
-    n.stored = store::adopted(h.stored);
-    restarted(n)
+    restarted(Head {
+        stored: store::adopted(h.stored),
+        ..h
+    })
 }
 
 // The delivery values, 00h being the number given.
@@ -70,13 +71,13 @@ pub fn fresh(node: u32, serial: u32) -> Head
     ensures { result ≡ fresh_of node serial }
 {
     let empty = state::errors::empty_list();
-    let h = Head {
+    restarted(Head {
         stored: Stored {
             values: delivered(node),
             number: 0,
             baud: 0,
             offer: 0,
-            serial: serial,
+            serial,
             unlocked: false,
         },
         faults: Faults {
@@ -99,6 +100,5 @@ pub fn fresh(node: u32, serial: u32) -> Head
         monitor: stopped_monitor(),
         ear: empty_ear(0),
         keys: 0,
-    };
-    restarted(h)
+    })
 }

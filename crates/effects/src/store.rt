@@ -10,8 +10,7 @@ use state::parts::{Setting, Stored};
 pub fn locked(s: Stored) -> bool
     ensures { result ≡ locked_of s }
 {
-    let v = s.values;
-    (v[Setting::INTERLOCK] == 1) & !s.unlocked
+    s.values[Setting::INTERLOCK] == 1 && !s.unlocked
 }
 
 // The value at a place after the system command: its delivery value, where the command resets it.
@@ -20,10 +19,10 @@ fn reset_value(command: u32, i: usize, word: u32) -> u32
     ensures { result ≡ reset_value command i word }
 {
     if rows::resets::resets(command, i) {
-        let row = rows::table::row_of(i);
-        return row.3;
+        rows::table::row_of(i).3
+    } else {
+        word
     }
-    word
 }
 
 // All 39 after the system command.
@@ -32,11 +31,8 @@ pub(crate) fn reset(values: [u32; 39], command: u32) -> [u32; 39]
     ensures { result ≡ reset_of command values }
 {
     let mut v = values;
-    let mut i: usize = 0;
-    while i < 39 {
-        let word = reset_value(command, i, v[i]);
-        v[i] = word;
-        i += 1;
+    for (i, word) in v.iter_mut().enumerate() {
+        *word = reset_value(command, i, *word);
     }
     v
 }
@@ -56,43 +52,33 @@ pub(crate) fn adopted(s: Stored) -> Stored
 pub fn restarted(s: Stored) -> Stored
     ensures { result ≡ restarted_stored s }
 {
-    let mut n = s;
-    let v = n.values;
-    n.number = v[Setting::NODE];
-    n.baud = v[Setting::BAUD];
-    n.offer = 0;
-    n
+    Stored {
+        number: s.values[Setting::NODE],
+        baud: s.values[Setting::BAUD],
+        offer: 0,
+        ..s
+    }
 }
 
 #[tactic(auto, unfolding(crate::specs::Stored::stored_by))]
 pub fn stored_by(d: Deed, s: Stored) -> Stored
     ensures { result ≡ stored_by d s }
 {
-    let mut n = s;
     match d {
         Deed::Store(i, word) => {
+            let mut n = s;
             if i < 39 {
                 n.values[i] = word;
             }
             n
         }
-        Deed::Reset(command) => {
-            let v = reset(n.values, command);
-            n.values = v;
-            n
-        }
-        Deed::Unlock(b) => {
-            n.unlocked = b;
-            n
-        }
-        Deed::Offer(number) => {
-            n.offer = number;
-            n
-        }
-        Deed::Withdraw => {
-            n.offer = 0;
-            n
-        }
-        _ => n,
+        Deed::Reset(command) => Stored {
+            values: reset(s.values, command),
+            ..s
+        },
+        Deed::Unlock(unlocked) => Stored { unlocked, ..s },
+        Deed::Offer(offer) => Stored { offer, ..s },
+        Deed::Withdraw => Stored { offer: 0, ..s },
+        _ => s,
     }
 }

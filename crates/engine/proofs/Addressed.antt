@@ -1,6 +1,7 @@
 -- What stands behind an address, in the engine's reading by groups and in the crate rows' table, is the same: each is one test over all addresses, or over all
 -- places, computed.
 -- Assumes nothing.
+use Rattle.std.specs.Prelude.{Some}
 use Prim.Native.Nat.{ℕ, zero, suc, ◌<◌, ◌≤◌}
 use mathlib.Core.Path.{◌≡◌, refl, sym, ◌∙◌, ap, subst}
 use mathlib.Core.Bool.{Bool, true, false, cond, not, ◌&&◌, ◌||◌, true≢false}
@@ -19,7 +20,6 @@ use Rattle.rows.specs.declared.access.Access.TheVariants.{ReadWrite, ReadOnly, W
 use Rattle.rows.specs.declared.range.Range.{Range}
 use Rattle.rows.specs.declared.range.Range.TheVariants.{Right, Low, High, Between}
 use Rattle.rows.specs.declared.table.Row.{Row}
-use Rattle.rows.specs.declared.table.Place.TheVariants.{At}
 use Rattle.rows.specs.Among.{among}
 use Rattle.rows.specs.Table.{rows, row_of, place_of, is_at, address, low, high, delivery}
 use Rattle.rows.specs.Access.{access_of, broadcast_of}
@@ -55,7 +55,7 @@ place_at : (i : ℕ) → i < 39 → place (address (row_of i)) ≡ i
 unfolding place the39 row_of rows
 place_at i p = eqb→eq _ i (in_span (λ k. eqb (place (address (row_of k))) k) 0 39 tt i (omega arith) (omega arith))
 
-pub place_is : (a : ℕ) {i : ℕ} → place_of a ≡ At i → place a ≡ i
+pub place_is : (a : ℕ) {i : ℕ} → place_of a ≡ Some i → place a ≡ i
 place_is a e = ap place (sym (place_address a e)) ∙ place_at _ (place_below a e)
 
 -- ---- the access groups

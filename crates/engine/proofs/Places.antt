@@ -1,20 +1,14 @@
--- What the place of an address in the table tells: whether it is one of the 39, and which. By the agreement of the table with the engine's list.
+-- The place of an address in the table, by the engine's list of the 39.
 -- Assumes nothing.
-use Prim.Native.Nat.{ℕ}
-use mathlib.Core.Path.{◌≡◌, sym, ◌∙◌, ap}
-use mathlib.Core.Bool.{true, false}
-use Rattle.rows.specs.declared.table.Place.{Place}
-use Rattle.rows.specs.declared.table.Place.TheVariants.{At, Nowhere}
+use Rattle.std.specs.Prelude.{Option, Some, None}
+use Rattle.std.proofs.Common.{◌≡◌, ℕ, true, false, cond, refl, sym, ◌∙◌, ap}
 use Rattle.rows.specs.Table.{place_of, is_at}
 use Rattle.engine.specs.Addresses.{place, is_stored}
 use Rattle.engine.proofs.Addressed.{stored_is, place_is}
 
-module _ (a : ℕ) {p : Place} (e : p ≡ place_of a) where
-  pub is_stored_lem : {i : ℕ} → p ≡ At i → is_stored a ≡ true
-  is_stored_lem f = sym (stored_is a) ∙ ap is_at (sym e ∙ f)
-
-  pub not_stored : p ≡ Nowhere → is_stored a ≡ false
-  not_stored f = sym (stored_is a) ∙ ap is_at (sym e ∙ f)
-
-  pub placed : {i : ℕ} → p ≡ At i → place a ≡ i
-  placed f = place_is a (sym e ∙ f)
+pub placed : (a : ℕ) → place_of a ≡ cond (is_stored a) (Some (place a)) None
+placed a = go (place_of a) refl
+  where
+    go : (p : Option ℕ) → place_of a ≡ p → p ≡ cond (is_stored a) (Some (place a)) None
+    go (Some i) e = let s : is_stored a ≡ true = sym (stored_is a) ∙ ap is_at e in let q : place a ≡ i = place_is a e in rw (s, q)
+    go None e = let s : is_stored a ≡ false = sym (stored_is a) ∙ ap is_at e in rw s

@@ -1,8 +1,8 @@
 -- A head's answer to a whole telegram (document 02, request (xiii)): refusal 20 first, then the telegram's way.
 -- Assumes nothing.
-use Rattle.std.specs.Prelude.{ℕ, cond, List, replicate}
+use Rattle.std.specs.Prelude.{ℕ, cond, List, replicate, is_some}
 use Rattle.wire.specs.Check.{hit_of}
-use Rattle.wire.specs.Telegram.{fields_of}
+use Rattle.wire.specs.Telegram.{fields_of, ten_in}
 use Rattle.state.specs.declared.parts.Head.{Head}
 use Rattle.state.specs.Wellformed.{wellformed_of}
 use Rattle.engine.specs.declared.Told.{Told}
@@ -22,7 +22,7 @@ told_of h ten time = way (fields_of ten) h (hearing (hit_of ten) time h) (hit_of
 
 -- as an answer; and refused: the head as it was, and no reply
 abbrev pub answered_by : Told → Answered
-answered_by x = record { head = x.head; outcome = cond x.replied Reply Silence; reply = x.reply }
+answered_by x = record { head = x.head; outcome = cond (is_some x.reply) Reply Silence; reply = ten_in x.reply }
 
 abbrev pub refused_with : Head → Answered
 refused_with h = record { head = h; outcome = Refused Malformed; reply = replicate 10 0 }

@@ -1,7 +1,7 @@
 -- A telegram's way through the head (document 01, the section of that name; document 02, requests (i), (ii) and (iii)): ten bytes at once, the checks in order, the first that applies
 -- decides.
 -- Assumes nothing.
-use Rattle.std.specs.Prelude.{ℕ, ◌+◌, ◌-◌, ◌*◌, Bool, true, false, cond, not, ◌&&◌, ◌||◌, List, [], ◌∷◌, eqb, ltb, replicate}
+use Rattle.std.specs.Prelude.{ℕ, ◌+◌, ◌-◌, ◌*◌, Bool, true, cond, not, ◌&&◌, ◌||◌, List, [], ◌∷◌, eqb, ltb, Some, None, Result, Ok, Err, ⊤}
 use Rattle.std.specs.Int.Signed.{lt_z}
 use Rattle.wire.specs.declared.telegram.Telegram.{Telegram}
 use Rattle.wire.specs.declared.fault.Fault.{Fault}
@@ -38,20 +38,24 @@ hearing hit time h =
 
 -- ---- silence; and a reply, which copies command and node, with the status word of a head in the control word's place
 unfoldable pub silent : Head → Told
-silent after = record { head = after; replied = false; reply = replicate 10 0 }
+silent after = record { head = after; reply = None }
 
 unfoldable pub reply : Telegram → ℕ → Head → ℕ → Head → Told
 reply t parameter shown v after =
     record {
       head = after;
-      replied = true;
-      reply = bytes_of (record { command = t.command; node = t.node; parameter = parameter; word = status shown; value = v });
+      reply = Some (bytes_of (record { command = t.command; node = t.node; parameter = parameter; word = status shown; value = v }));
     }
 
 -- ---- the first row that applies decides
 abbrev pub first : List (Bool × Told) → Told → Told
 first [] last = last
 first (r ∷ rows) last = cond r.0 r.1 (first rows last)
+
+-- ---- of a check: what comes next where it lets pass, and else what it decides
+abbrev pub decided_or : Result ⊤ Told → Told → Told
+decided_or (Ok passed) next = next
+decided_or (Err told) next = told
 
 -- 0Eh is 1 and the interlock closed
 abbrev pub locked : Head → Bool

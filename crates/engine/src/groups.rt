@@ -1,58 +1,46 @@
 // What the checks ask about an address: its group, whether the interlock covers it, and how a value lies to its limits.
 ghost use Rattle.std.specs.Prelude.{◌≡◌, cond, ◌||◌, eqb};
 ghost use Rattle.std.specs.Int.Signed.{lt_z};
-ghost use Rattle.engine.specs.Addresses.{is_stored, is_read_only, is_write_only, is_known, limits_of, is_listed, number_in};
+ghost use Rattle.engine.specs.Addresses.{place, is_stored, is_read_only, is_write_only, is_known, limits_of, is_listed, number_in};
 
 use rows::access::Access;
 use rows::range::Range;
 use rows::table;
-use rows::table::Place;
 
 #[tactic(auto, using(crate::proofs::Addressed::known_is))]
 pub(crate) fn is_known(address: u8) -> bool
     ensures { result ≡ is_known address }
 {
-    match rows::access::access_of(address) {
-        Access::ReadWrite => true,
-        Access::ReadOnly => true,
-        Access::WriteOnly => true,
-        Access::Unknown => false,
-    }
+    !matches!(rows::access::access_of(address), Access::Unknown)
 }
 
 #[tactic(auto, using(crate::proofs::Addressed::read_only_is))]
 pub(crate) fn is_read_only(address: u8) -> bool
     ensures { result ≡ is_read_only address }
 {
-    match rows::access::access_of(address) {
-        Access::ReadWrite => false,
-        Access::ReadOnly => true,
-        Access::WriteOnly => false,
-        Access::Unknown => false,
-    }
+    matches!(rows::access::access_of(address), Access::ReadOnly)
 }
 
 #[tactic(auto, using(crate::proofs::Addressed::write_only_is))]
 pub(crate) fn is_write_only(address: u8) -> bool
     ensures { result ≡ is_write_only address }
 {
-    match rows::access::access_of(address) {
-        Access::ReadWrite => false,
-        Access::ReadOnly => false,
-        Access::WriteOnly => true,
-        Access::Unknown => false,
-    }
+    matches!(rows::access::access_of(address), Access::WriteOnly)
+}
+
+// The place of one of the 39.
+#[tactic(auto, using(crate::proofs::Places::placed))]
+pub(crate) fn place_of(address: u8) -> Option<usize>
+    ensures { result ≡ cond (is_stored address) (Some (place address)) None }
+{
+    table::place_of(address)
 }
 
 // What the interlock covers: the 39 and A0h, and never A8h.
-#[tactic(auto, using(crate::proofs::Addressed::stored_is))]
 pub(crate) fn is_covered(address: u8) -> bool
     ensures { result ≡ (is_stored address || eqb address 0xA0) }
 {
-    match table::place_of(address) {
-        Place::At(_) => true,
-        Place::Nowhere => address == 0xA0,
-    }
+    place_of(address).is_some() || address == 0xA0
 }
 
 // Below low, above high, in between and not listed, or right.

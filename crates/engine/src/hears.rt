@@ -4,18 +4,18 @@ ghost use Rattle.engine.specs.Way.{raised, counted, hearing};
 
 use crate::does;
 use state::errors;
-use state::parts::{Faults, Head};
+use state::parts::{Faults, Head, Monitor};
 use wire::fault::Fault;
 
 // A raised error becomes the pending one and enters the error memory.
 fn raised(code: u16, f: Faults) -> Faults
     ensures { result ≡ raised code f }
 {
-    let mut n = f;
-    let l = errors::remembered(n.memory, code);
-    n.memory = l;
-    n.pending = code;
-    n
+    Faults {
+        memory: errors::remembered(f.memory, code),
+        pending: code,
+        ..f
+    }
 }
 
 // Check 1 for whomever: a sound telegram ends the row of damaged ones, and the third of a row raises error 0080h.
@@ -23,32 +23,38 @@ fn raised(code: u16, f: Faults) -> Faults
 fn counted(hit: u8, f: Faults) -> Faults
     ensures { result ≡ counted hit f }
 {
-    let mut n = f;
     if hit == 0 {
-        n.damaged = 0;
-        return n;
+        Faults { damaged: 0, ..f }
+    } else if f.damaged < 2 {
+        Faults {
+            hit,
+            damaged: f.damaged + 1,
+            ..f
+        }
+    } else {
+        raised(
+            Fault::CheckSum.code(),
+            Faults {
+                hit,
+                damaged: 0,
+                ..f
+            },
+        )
     }
-    n.hit = hit;
-    if n.damaged < 2 {
-        n.damaged = n.damaged + 1;
-        return n;
-    }
-    n.damaged = 0;
-    raised(Fault::CHECK_SUM, n)
 }
 
 // A sound telegram starts the monitor.
 #[tactic(auto, unfolding(crate::specs::Way::hearing))]
-pub(crate) fn hearing(hit: u8, at: u32, h: Head) -> Head
+pub(crate) fn hearing(hit: u8, at: u32, mut h: Head) -> Head
     ensures { result ≡ hearing hit at h }
 {
-    let mut n = h;
-    n.faults = counted(hit, h.faults);
-    n.ear = does::none(at);
+    h.faults = counted(hit, h.faults);
+    h.ear = does::none(at);
     if hit == 0 {
-        n.monitor.running = true;
-        n.monitor.since = at;
-        return n;
+        h.monitor = Monitor {
+            running: true,
+            since: at,
+        };
     }
-    n
+    h
 }

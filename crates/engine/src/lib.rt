@@ -3,7 +3,7 @@
 #![tactic(auto)]
 
 mod aims;
-mod control;
+mod case;
 mod does;
 mod groups;
 mod hears;
@@ -17,6 +17,7 @@ mod writes;
 ghost use Rattle.std.specs.Prelude.{◌≡◌};
 ghost use Rattle.engine.specs.Answer.{refusal_of, told_of, answered_by, refused_with, answer_of};
 
+use case::Case;
 use state::parts::Head;
 use state::wellformed;
 use wire::{check, telegram};
@@ -24,29 +25,24 @@ use wire::{check, telegram};
 // Why a telegram is not answered: the head handed in is one that cannot be.
 #[derive(Clone, Copy)]
 pub enum Refusal {
-    Malformed,
+    Malformed = 20,
 }
 
 impl Refusal {
-    const MALFORMED: u32 = 20;
-
     // The document's number.
     pub fn number(self) -> u32
         ensures { result ≡ refusal_of self }
     {
-        match self {
-            Refusal::Malformed => Refusal::MALFORMED,
-        }
+        self as u32
     }
 }
 
-// What a telegram comes to: the head after it, and its reply, all 0 where there is none.
+// What a telegram comes to: the head after it, and its reply, if there is one.
 #[repr(C)]
 #[derive(Clone, Copy)]
 pub struct Told {
     pub head: Head,
-    pub replied: bool,
-    pub reply: [u8; 10],
+    pub reply: Option<[u8; 10]>,
 }
 
 #[derive(Clone, Copy)]
@@ -56,7 +52,7 @@ pub enum Outcome {
     Refused(Refusal),
 }
 
-// The head after a telegram, whether it replies, and its reply, all 0 where there is none.
+// The head after a telegram, whether it replies, and its reply. Bytes stand there of a silence too: `quiet` of the crate agreement has them 0.
 #[repr(C)]
 #[derive(Clone, Copy)]
 pub struct Answered {
@@ -65,41 +61,45 @@ pub struct Answered {
     pub reply: [u8; 10],
 }
 
+impl Told {
+    fn into_answer(self) -> Answered
+        ensures { result ≡ answered_by self }
+    {
+        match self.reply {
+            Some(reply) => Answered {
+                head: self.head,
+                outcome: Outcome::Reply,
+                reply,
+            },
+            None => Answered {
+                head: self.head,
+                outcome: Outcome::Silence,
+                reply: [0; 10],
+            },
+        }
+    }
+}
+
 #[tactic(auto, unfolding(crate::specs::Answer::told_of))]
-fn tell(h: Head, ten: [u8; 10], at: u32) -> Told
-    ensures { result ≡ told_of h ten at }
+fn tell(before: Head, ten: [u8; 10], at: u32) -> Told
+    ensures { result ≡ told_of before ten at }
 {
     let hit = check::hit(ten);
-    let n = hears::hearing(hit, at, h);
-    way::way(telegram::fields(ten), h, n, hit)
+    let case = Case {
+        telegram: telegram::fields(ten),
+        before,
+        heard: hears::hearing(hit, at, before),
+    };
+    case.way(hit)
 }
 
-fn as_answer(x: Told) -> Answered
-    ensures { result ≡ answered_by x }
-{
-    let after = x.head;
-    let bytes = x.reply;
-    if x.replied {
-        return Answered {
-            head: after,
-            outcome: Outcome::Reply,
-            reply: bytes,
-        };
-    }
-    Answered {
-        head: after,
-        outcome: Outcome::Silence,
-        reply: bytes,
-    }
-}
-
-fn refused(h: Head) -> Answered
-    ensures { result ≡ refused_with h }
+fn refused(head: Head) -> Answered
+    ensures { result ≡ refused_with head }
 {
     Answered {
-        head: h,
+        head,
         outcome: Outcome::Refused(Refusal::Malformed),
-        reply: [0u8; 10],
+        reply: [0; 10],
     }
 }
 
@@ -109,7 +109,8 @@ pub fn answer(h: Head, ten: [u8; 10], at: u32) -> Answered
     ensures { result ≡ answer_of h ten at }
 {
     if wellformed::wellformed(h) {
-        return as_answer(tell(h, ten, at));
+        tell(h, ten, at).into_answer()
+    } else {
+        refused(h)
     }
-    refused(h)
 }

@@ -2,38 +2,34 @@
 ghost use Rattle.std.specs.Prelude.{◌≡◌};
 ghost use Rattle.engine.specs.Way.{read};
 
-use crate::{Told, does, says, shows};
-use rows::table;
-use rows::table::Place;
-use state::parts::Head;
+use crate::case::Case;
+use crate::{Told, does, groups, shows};
 use state::status;
-use wire::telegram::Telegram;
 
-#[tactic(auto, unfolding(crate::specs::Way::read, crate::specs::Addresses::the39), using(crate::proofs::Shown::status_is))]
-pub(crate) fn read(t: Telegram, h: Head, n: Head) -> Told
-    ensures { result ≡ read t h n }
-{
-    let p = t.parameter;
-    let s = h.stored;
-    let v = s.values;
-    if let Place::At(i) = table::place_of(p) {
-        return says::answer(t, shows::stored(v, i), n);
-    }
-    let f = h.faults;
-    let a = h.targets;
-    let l = f.memory;
-    match p {
-        0x65 => says::answer(t, 11, n),
-        0x67 => says::answer(t, 100, n),
-        0x80 => says::answer(t, l.count, n),
-        0x81..=0x8A => says::answer(t, shows::error_at(p, h), n),
-        0x96 => says::answer(t, shows::input_error(t, h), n),
-        0xFA => says::answer_old(t, h, status::status(h) as u32, does::clear(n)),
-        0xFB => says::answer(t, a.first, n),
-        0xFC => says::answer(t, shows::differential(h, a.second), n),
-        0xFD => says::answer(t, f.pending as u32, n),
-        0xFE => says::answer(t, shows::position(h), does::release(n)),
-        0xFF => says::answer(t, a.second, n),
-        _ => says::answer(t, 0, n),
+impl Case {
+    #[tactic(auto, unfolding(crate::specs::Way::read), using(crate::proofs::Shown::status_is))]
+    pub(crate) fn read(&self) -> Told
+        ensures { result ≡ read self.now.telegram self.now.before self.now.heard }
+    {
+        let parameter = self.telegram.parameter;
+        let h = self.before;
+        let n = self.heard;
+        if let Some(i) = groups::place_of(parameter) {
+            return self.answer(shows::stored(h.stored.values, i), n);
+        }
+        match parameter {
+            0x65 => self.answer(11, n),
+            0x67 => self.answer(100, n),
+            0x80 => self.answer(h.faults.memory.count, n),
+            0x81..=0x8A => self.answer(shows::error_at(parameter, h), n),
+            0x96 => self.answer(shows::input_error(self.telegram, h), n),
+            0xFA => self.answer_old(status::status(h) as u32, does::clear(n)),
+            0xFB => self.answer(h.targets.first, n),
+            0xFC => self.answer(shows::differential(h, h.targets.second), n),
+            0xFD => self.answer(h.faults.pending as u32, n),
+            0xFE => self.answer(shows::position(h), does::release(n)),
+            0xFF => self.answer(h.targets.second, n),
+            _ => self.answer(0, n),
+        }
     }
 }

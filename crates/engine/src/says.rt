@@ -3,6 +3,7 @@ ghost use Rattle.std.specs.Prelude.{◌≡◌};
 ghost use Rattle.engine.specs.Way.{silent, reply, complain, refuse};
 
 use crate::Told;
+use crate::case::{BROADCAST, Case};
 use state::parts::Head;
 use state::{errors, status};
 use wire::fault::Fault;
@@ -15,75 +16,60 @@ pub(crate) fn silent(after: Head) -> Told
 {
     Told {
         head: after,
-        replied: false,
-        reply: [0u8; 10],
+        reply: None,
     }
 }
 
-// With the status word of a head before.
-#[tactic(auto, unfolding(crate::specs::Way::reply), using(crate::proofs::Shown::status_is))]
-pub(crate) fn answer_old(t: Telegram, before: Head, value: u32, after: Head) -> Told
-    ensures { result ≡ reply t t.parameter before value after }
-{
-    let x = telegram::bytes(Telegram {
-        command: t.command,
-        node: t.node,
-        parameter: t.parameter,
-        word: status::status(before),
-        value: value,
-    });
-    Told {
-        head: after,
-        replied: true,
-        reply: x,
+impl Case {
+    // With the status word of the head that is shown.
+    #[tactic(auto, unfolding(crate::specs::Way::reply), using(crate::proofs::Shown::status_is))]
+    fn reply(&self, parameter: u8, shown: Head, value: u32, after: Head) -> Told
+        ensures { result ≡ reply self.now.telegram parameter shown value after }
+    {
+        let bytes = telegram::bytes(Telegram {
+            parameter,
+            word: status::status(shown),
+            value,
+            ..self.telegram
+        });
+        Told {
+            head: after,
+            reply: Some(bytes),
+        }
     }
-}
 
-// With the status word after.
-#[tactic(auto, unfolding(crate::specs::Way::reply), using(crate::proofs::Shown::status_is))]
-fn reply(t: Telegram, parameter: u8, value: u32, after: Head) -> Told
-    ensures { result ≡ reply t parameter after value after }
-{
-    let x = telegram::bytes(Telegram {
-        command: t.command,
-        node: t.node,
-        parameter: parameter,
-        word: status::status(after),
-        value: value,
-    });
-    Told {
-        head: after,
-        replied: true,
-        reply: x,
+    // With the status word after.
+    pub(crate) fn answer(&self, value: u32, after: Head) -> Told
+        ensures { result ≡ reply self.now.telegram self.now.telegram.parameter after value after }
+    {
+        self.reply(self.telegram.parameter, after, value, after)
     }
-}
 
-pub(crate) fn answer(t: Telegram, value: u32, after: Head) -> Told
-    ensures { result ≡ reply t t.parameter after value after }
-{
-    reply(t, t.parameter, value, after)
-}
-
-// An error reply has FDh as parameter and enters the input list.
-#[tactic(auto, unfolding(crate::specs::Way::complain))]
-pub(crate) fn complain(t: Telegram, fault: Fault, h: Head) -> Told
-    ensures { result ≡ complain t fault h }
-{
-    let code = fault.code();
-    let mut f = h.faults;
-    let l = errors::remembered(f.inputs, code);
-    f.inputs = l;
-    let mut n = h;
-    n.faults = f;
-    reply(t, 0xFD, code as u32, n)
-}
-
-// A refused broadcast is silent.
-pub(crate) fn refuse(t: Telegram, fault: Fault, h: Head) -> Told
-    ensures { result ≡ refuse t fault h }
-{
-    if t.command == 2 {
-        return silent(h);
+    // With the status word before.
+    pub(crate) fn answer_old(&self, value: u32, after: Head) -> Told
+        ensures { result ≡ reply self.now.telegram self.now.telegram.parameter self.now.before value after }
+    {
+        self.reply(self.telegram.parameter, self.before, value, after)
     }
-    complain(t, fault, h)
+
+    // An error reply has FDh as parameter and enters the input list.
+    #[tactic(auto, unfolding(crate::specs::Way::complain))]
+    pub(crate) fn complain(&self, fault: Fault, mut head: Head) -> Told
+        ensures { result ≡ complain self.now.telegram fault head }
+    {
+        let code = fault.code();
+        head.faults.inputs = errors::remembered(head.faults.inputs, code);
+        self.reply(0xFD, head, code as u32, head)
+    }
+
+    // A refused broadcast is silent.
+    pub(crate) fn refuse(&self, fault: Fault) -> Told
+        ensures { result ≡ refuse self.now.telegram fault self.now.heard }
+    {
+        if self.telegram.command == BROADCAST {
+            silent(self.heard)
+        } else {
+            self.complain(fault, self.heard)
+        }
+    }
 }

@@ -14,7 +14,7 @@ use wire::telegram::Telegram;
 pub(crate) fn stored(values: [u32; 39], i: usize) -> u32
     ensures { result ≡ get_or values i 0 }
 {
-    if i < 39 { values[i] } else { 0 }
+    values.get(i).copied().unwrap_or(0)
 }
 
 // What FEh would show unfrozen.
@@ -22,21 +22,18 @@ pub(crate) fn stored(values: [u32; 39], i: usize) -> u32
 fn current(h: Head) -> u32
     ensures { result ≡ word_of (current h) }
 {
-    let s = h.stored;
-    let v = s.values;
-    let w = position::view(v, h.measurement);
-    signed::word(w.shown)
+    signed::word(position::view(h.stored.values, h.measurement).shown)
 }
 
 // FEh: the kept value while it is frozen.
 pub(crate) fn position(h: Head) -> u32
     ensures { result ≡ word_of (cond h.measurement.frozen h.measurement.kept (current h)) }
 {
-    let g = h.measurement;
-    if g.frozen {
-        return signed::word(g.kept);
+    if h.measurement.frozen {
+        signed::word(h.measurement.kept)
+    } else {
+        current(h)
     }
-    current(h)
 }
 
 // FCh, and FFh with 03h 2: the differential value for a set point.
@@ -44,35 +41,24 @@ pub(crate) fn position(h: Head) -> u32
 pub(crate) fn differential(h: Head, target: u32) -> u32
     ensures { result ≡ word_of (differential h target) }
 {
-    let s = h.stored;
-    let v = s.values;
-    signed::word(status::difference(v, h.measurement, target))
+    signed::word(status::difference(h.stored.values, h.measurement, target))
 }
 
 // 81h is the oldest of the remembered errors.
 pub(crate) fn error_at(address: u8, h: Head) -> u32
     ensures { result ≡ entry_of h.faults.memory (address - 0x81) }
 {
-    let f = h.faults;
-    let l = f.memory;
-    if 0x81 <= address {
-        return errors::entry(l, (address - 0x81) as usize) as u32;
-    }
-    errors::entry(l, 0) as u32
+    errors::entry(h.faults.memory, address.saturating_sub(0x81) as usize) as u32
 }
 
 // 96h: its number in the first data byte; 0 gives the count, n the nth oldest code.
 pub(crate) fn input_error(t: Telegram, h: Head) -> u32
     ensures { result ≡ input_error h (byte0 t.value) }
 {
-    let number = wire::word::first(t.value);
-    let f = h.faults;
-    let l = f.inputs;
-    if number == 0 {
-        return l.count;
+    match wire::word::first(t.value) {
+        0 => h.faults.inputs.count,
+        n => n as u32 * 16777216 + errors::entry(h.faults.inputs, (n - 1) as usize) as u32,
     }
-    let code = errors::entry(l, (number - 1) as usize);
-    number as u32 * 16777216 + code as u32
 }
 
 // The answer to a write of FFh, by 03h: the set point, the current value, or the differential value.
@@ -80,14 +66,9 @@ pub(crate) fn input_error(t: Telegram, h: Head) -> u32
 pub(crate) fn response(t: Telegram, h: Head) -> u32
     ensures { result ≡ response t h }
 {
-    let s = h.stored;
-    let v = s.values;
-    let how = v[Setting::RESPONSE];
-    if how == 1 {
-        return current(h);
+    match h.stored.values[Setting::RESPONSE] {
+        1 => current(h),
+        2 => differential(h, t.value),
+        _ => t.value,
     }
-    if how == 2 {
-        return differential(h, t.value);
-    }
-    t.value
 }

@@ -2,68 +2,69 @@
 ghost use Rattle.std.specs.Prelude.{◌≡◌};
 ghost use Rattle.engine.specs.Way.{doing, doing_old, system, write};
 
-use crate::{Told, aims, does, keeps, says, shows};
-use rows::table;
-use rows::table::Place;
+use crate::case::{Case, WRITE};
+use crate::{Told, aims, does, groups, keeps, says, shows};
 use state::parts::Head;
-use wire::telegram::Telegram;
 
-// Answered with the value written, and the status word after.
-fn done(t: Telegram, after: Head) -> Told
-    ensures { result ≡ doing t after }
-{
-    if t.command == 1 {
-        return says::answer(t, t.value, after);
+impl Case {
+    // Answered with the value written, and the status word after.
+    fn done(&self, after: Head) -> Told
+        ensures { result ≡ doing self.now.telegram after }
+    {
+        if self.telegram.command == WRITE {
+            self.answer(self.telegram.value, after)
+        } else {
+            says::silent(after)
+        }
     }
-    says::silent(after)
-}
 
-// With the status word of before.
-fn done_old(t: Telegram, before: Head, value: u32, after: Head) -> Told
-    ensures { result ≡ doing_old t before value after }
-{
-    if t.command == 1 {
-        return says::answer_old(t, before, value, after);
+    // With the status word of before.
+    fn done_old(&self, value: u32, after: Head) -> Told
+        ensures { result ≡ doing_old self.now.telegram self.now.before value after }
+    {
+        if self.telegram.command == WRITE {
+            self.answer_old(value, after)
+        } else {
+            says::silent(after)
+        }
     }
-    says::silent(after)
-}
 
-// A0h: 7 calibrates, 8 empties the error memory, 9 replies and restarts, 1, 2 and 5 reset.
-#[tactic(auto, unfolding(crate::specs::Way::system))]
-fn system(t: Telegram, h: Head, n: Head) -> Told
-    ensures { result ≡ system t h n }
-{
-    let command = t.value;
-    if command == 7 {
-        return done(t, does::calibrate(n));
+    // A0h: 7 calibrates, 8 empties the error memory, 9 replies and restarts, 1, 2 and 5 reset.
+    #[tactic(auto, unfolding(crate::specs::Way::system))]
+    fn system(&self) -> Told
+        ensures { result ≡ system self.now.telegram self.now.before self.now.heard }
+    {
+        let n = self.heard;
+        match self.telegram.value {
+            7 => self.done(does::calibrate(n)),
+            8 => self.done(does::forget(n)),
+            9 => self.done_old(9, does::restart(n)),
+            command => self.done(keeps::reset(command, n)),
+        }
     }
-    if command == 8 {
-        return done(t, does::forget(n));
-    }
-    if command == 9 {
-        return done_old(t, h, command, does::restart(n));
-    }
-    done(t, keeps::reset(command, n))
-}
 
-#[tactic(auto, unfolding(crate::specs::Way::write, crate::specs::Does::store, crate::specs::Addresses::the39))]
-pub(crate) fn write(t: Telegram, h: Head, n: Head) -> Told
-    ensures { result ≡ write t h n }
-{
-    let p = t.parameter;
-    let v = t.value;
-    if let Place::At(i) = table::place_of(p) {
-        return done(t, keeps::store(i, v, n));
-    }
-    match p {
-        0xA0 => system(t, h, n),
-        0xA7 => done(t, does::calibrate(n)),
-        0xA8 => done(t, does::unlock(v == 1, n)),
-        0xAA => done(t, does::freeze(n)),
-        // An offer is remembered without a reply.
-        0xD2 => says::silent(does::offer(v, n)),
-        0xFB => done_old(t, h, v, aims::aim_first(v, t.word, n)),
-        0xFF => done_old(t, h, shows::response(t, h), aims::aim_second(v, t.word, n)),
-        _ => done(t, n),
+    #[tactic(auto, unfolding(crate::specs::Way::write, crate::specs::Does::store))]
+    pub(crate) fn write(&self) -> Told
+        ensures { result ≡ write self.now.telegram self.now.before self.now.heard }
+    {
+        let t = self.telegram;
+        let n = self.heard;
+        if let Some(i) = groups::place_of(t.parameter) {
+            return self.done(keeps::store(i, t.value, n));
+        }
+        match t.parameter {
+            0xA0 => self.system(),
+            0xA7 => self.done(does::calibrate(n)),
+            0xA8 => self.done(does::unlock(t.value == 1, n)),
+            0xAA => self.done(does::freeze(n)),
+            // An offer is remembered without a reply.
+            0xD2 => says::silent(does::offer(t.value, n)),
+            0xFB => self.done_old(t.value, aims::aim_first(t.value, t.word, n)),
+            0xFF => self.done_old(
+                shows::response(t, self.before),
+                aims::aim_second(t.value, t.word, n),
+            ),
+            _ => self.done(n),
+        }
     }
 }

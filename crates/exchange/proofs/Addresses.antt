@@ -1,5 +1,6 @@
 -- What each question means, by its address: the checks compute there, and the lists of addresses are tested over all 256.
 -- Assumes nothing.
+use Rattle.std.specs.Prelude.{Some}
 use Prim.Native.Nat.{ℕ, zero, suc, ◌-◌, ◌≤◌, ◌<◌}
 use mathlib.Core.Path.{◌≡◌, refl, sym, ◌∙◌, ap}
 use mathlib.Core.Bool.{Bool, true, false, cond, not, ◌&&◌, ◌||◌, and-eq-true_iff, and-false, and-true, true≢false}
@@ -22,7 +23,6 @@ use Rattle.rows.specs.declared.access.Access.{Access}
 use Rattle.rows.specs.declared.access.Access.TheVariants.{ReadWrite, ReadOnly, WriteOnly, Unknown}
 use Rattle.rows.specs.declared.range.Range.{Range}
 use Rattle.rows.specs.declared.range.Range.TheVariants.{Right, Low, High, Between}
-use Rattle.rows.specs.declared.table.Place.TheVariants.{At}
 use Rattle.rows.specs.Table.{rows, row_of, address, place_of}
 use Rattle.rows.specs.Among.{among}
 use Rattle.rows.specs.Access.{access_of}
@@ -286,7 +286,7 @@ keeps : (r : ℕ) → r < 39 → (h : Head) (word v : ℕ) → Fits (reads_at (g
 unfolding kind_of read_of
 keeps r lt h word v fits =
     let p = get_or the39 r 0 in
-    let at : place_of p ≡ At r = ap place_of (place_is r lt) ∙ row_place r lt in
+    let at : place_of p ≡ Some r = ap place_of (place_is r lt) ∙ row_place r lt in
     let s = one_stored p fits.parameter (listed r lt) in
     shown_read p h word v (rw s.may) (rw s.not_96) fits ∙ rw at
 

@@ -9,11 +9,12 @@ use mathlib.Core.List.{List, [], ◌∷◌, map}
 use native.Mathlib.Omega.{arith}
 use borrow.Author.Tests.{eqb-true, eqb-false, eq-eqb}
 use lib.Dec.{eqb}
+use Rattle.std.specs.Prelude.{Option, is_some}
 use Rattle.wire.specs.declared.telegram.Telegram.{Telegram}
 use Rattle.wire.specs.declared.fault.Fault.{Fault}
 use Rattle.wire.specs.declared.fault.Fault.TheVariants.{WriteRefused}
 use Rattle.wire.specs.Faults.{code_of}
-use Rattle.wire.specs.Telegram.{bytes_of, Fits}
+use Rattle.wire.specs.Telegram.{bytes_of, Fits, ten_in}
 use Rattle.wire.proofs.Laws.{word_bytes, half_bytes, built_sound, built_ten, built_fields}
 use Rattle.rows.specs.declared.access.Access.TheVariants.{ReadOnly}
 use Rattle.rows.specs.Table.{rows}
@@ -32,7 +33,6 @@ use Rattle.judge.specs.Verdicts.{late_of, mine_of, verdict_of}
 use Rattle.judge.specs.Judged.{judged_of}
 use Rattle.judge.proofs.Laws.{command_is, refused_plain, refused_mine, obeyed_mine}
 use Rattle.state.specs.declared.parts.Head.{Head}
-use Rattle.reply.specs.declared.Said.{Said}
 use Rattle.reply.specs.Word.{carried_of}
 use Rattle.reply.specs.Reply.{answer_of, silence, fields_said, said, error_reply, value_reply, reply_by, reply_of}
 use Rattle.head.specs.Hear.{standing_of, tell_of}
@@ -116,8 +116,8 @@ module _ (e : Master) (does : Demanded e) (q : Telegram) (no-cast : q.command �
   error_read small unread = does.error q (reply 0xFD) (said_belongs 0xFD (inr refl)) refl unread ∙ ap Error (half_bytes v small)
 
 -- ---- by the verdict and the command
-abbrev out : Said → List (List ℕ)
-out s = cond s.replied (s.reply ∷ []) []
+abbrev out : Option (List ℕ) → List (List ℕ)
+out s = cond (is_some s) (ten_in s ∷ []) []
 
 casts_not : (a b : Bool) → (a && not b) ≡ true → b ≡ false
 casts_not true true e = sym e

@@ -1,6 +1,7 @@
 -- What one head sends: to ten bytes in time, that of one telegram told to it (demands, Whole); and whatever bytes it has gathered, a reply has its number in
 -- force in the node's place.
 -- Assumes nothing.
+use Rattle.std.specs.Prelude.{Ok, Result, is_some}
 use Prim.Native.Nat.{ℕ, ◌≤◌}
 use mathlib.Core.Path.{◌≡◌, refl, sym, ◌∙◌, ap}
 use mathlib.Core.Bool.{Bool, true, false}
@@ -11,10 +12,10 @@ use lib.Dec.{eqb}
 use lib.ListN.{length, get_or, take}
 use Rattle.wire.specs.declared.telegram.Telegram.{Telegram}
 use Rattle.wire.specs.Check.{xor_all}
-use Rattle.wire.specs.Telegram.{fields_of, nine_of, bytes_of}
+use Rattle.wire.specs.Telegram.{fields_of, nine_of, bytes_of, ten_in}
 use Rattle.state.specs.declared.parts.Head.{Head}
+use Rattle.head.specs.declared.refusal.Refusal.{Refusal}
 use Rattle.head.specs.declared.calls.Fed.{Fed}
-use Rattle.head.specs.declared.calls.Heard.TheVariants.{Replies}
 use Rattle.head.specs.Hear.{gathered_of, tell_of}
 use Rattle.head.specs.Calls.{byte_of, byte_space_of}
 use Rattle.line.specs.Round.{said_by}
@@ -38,21 +39,21 @@ module _ (q : Telegram) (τ : ℕ → ℕ) (h : Head) (steady : Steady τ) (r : 
   drawn_is space wide = calls_said space wide (bytes_of q) τ 0 h r.well ∙ in_time
 
 -- ---- a reply, whatever bytes are gathered
-none_one : Replies 0 ≡ Replies 1 → ⊥
+none_one : ◌≡◌ {A = Result ℕ Refusal} (Ok 0) (Ok 1) → ⊥
 none_one e = let z : ◌≡◌ {A = ℕ} 0 1 = cc in omega arith
 
-pub sent_node : (h : Head) (b t : ℕ) (space : List ℕ) → Taken h space → (byte_of h b t (length space)).heard ≡ Replies 1
+pub sent_node : (h : Head) (b t : ℕ) (space : List ℕ) → Taken h space → (byte_of h b t (length space)).heard ≡ Ok 1
     → get_or (take 10 (byte_space_of h b t space)) 1 0 ≡ h.stored.number
 unfolding fields_of tell_of
-sent_node h b t space k replied = go (gathered_of h.ear b t).whole refl
+sent_node h b t space k replied = go (is_some (gathered_of h.ear b t).ten) refl
   where
     ten : List ℕ
-    ten = (gathered_of h.ear b t).ten
+    ten = ten_in (gathered_of h.ear b t).ten
 
-    own : (gathered_of h.ear b t).whole ≡ true → (x : Bool) → eqb (fields_of ten).node h.stored.number ≡ x → (fields_of ten).node ≡ h.stored.number
+    own : is_some (gathered_of h.ear b t).ten ≡ true → (x : Bool) → eqb (fields_of ten).node h.stored.number ≡ x → (fields_of ten).node ≡ h.stored.number
     own w true e = eqb-true _ _ e
     own w false e = absurd (none_one (sym (keeps_silent h b t space k w (told_mute h ten t e)).0 ∙ replied))
 
-    go : (x : Bool) → (gathered_of h.ear b t).whole ≡ x → get_or (take 10 (byte_space_of h b t space)) 1 0 ≡ h.stored.number
+    go : (x : Bool) → is_some (gathered_of h.ear b t).ten ≡ x → get_or (take 10 (byte_space_of h b t space)) 1 0 ≡ h.stored.number
     go true w = (copies h b t space k w replied).node ∙ own w _ refl
     go false w = absurd (none_one (sym (ap (λ (x : Fed). x.heard) (gathers h b t space k w).0) ∙ replied))

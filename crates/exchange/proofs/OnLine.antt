@@ -1,6 +1,7 @@
 -- On a line: where all heads but one stay silent to bytes, the line's byte calls lay just what that one sends. Each byte reaches every head as it does alone
 -- (demands, Lines), so the same holds of the bytes that follow.
 -- Assumes nothing.
+use Rattle.std.specs.Prelude.{Ok, is_some}
 use Prim.Native.Nat.{ℕ, suc, ◌<◌, ◌≤◌}
 use mathlib.Core.Path.{◌≡◌, refl, ◌∙◌}
 use mathlib.Core.Bool.{Bool, true, false, cond}
@@ -10,10 +11,10 @@ use native.Mathlib.Omega.{arith}
 use borrow.Author.Tests.{eqb-true, eqb-false, ltb-true, ltb-false, le-ltb}
 use lib.Dec.{eqb, ltb}
 use lib.ListN.{length, take}
+use Rattle.wire.specs.Telegram.{ten_in}
 use Rattle.state.specs.declared.parts.Head.{Head}
 use Rattle.state.specs.Wellformed.{wellformed_of}
 use Rattle.head.specs.declared.hear.Stepped.{Stepped}
-use Rattle.head.specs.declared.calls.Heard.TheVariants.{Replies}
 use Rattle.head.specs.Hear.{step_of}
 use Rattle.head.specs.Calls as head
 use Rattle.line.specs.declared.calls.Line.{Line}
@@ -36,16 +37,16 @@ rest_none : {A : Type 0} (xs ys : List A) → xs ++ ys ≡ [] → ys ≡ []
 rest_none [] ys e = e
 rest_none (x ∷ xs) ys e = let z : ◌≡◌ {A = ℕ} 0 1 = cc in absurd (omega arith)
 
-pub no_reply_lem : (s : Stepped) → said_by s ≡ [] → s.replied ≡ false
-no_reply_lem s e = go s.replied e
+pub no_reply_lem : (s : Stepped) → said_by s ≡ [] → is_some s.reply ≡ false
+no_reply_lem s e = go (is_some s.reply) e
   where
-    go : (b : Bool) → cond b (s.reply ∷ []) [] ≡ [] → b ≡ false
+    go : (b : Bool) → cond b (ten_in s.reply ∷ []) [] ≡ [] → b ≡ false
     go true e = let z : ◌≡◌ {A = ℕ} 0 1 = cc in absurd (omega arith)
     go false e = refl
 
 module _ (space : List ℕ) (wide : 10 ≤ length space) (τ : ℕ → ℕ) where
   -- a byte to a head alone
-  heard_is : (h : Head) (b t : ℕ) → wellformed_of h ≡ true → (r : Bool) → (step_of h b t).replied ≡ r → (head.byte_of h b t (length space)).heard ≡ Replies (cond r 1 0)
+  heard_is : (h : Head) (b t : ℕ) → wellformed_of h ≡ true → (r : Bool) → is_some (step_of h b t).reply ≡ r → (head.byte_of h b t (length space)).heard ≡ Ok (cond r 1 0)
   unfolding head.byte_of
   heard_is h b t w r e = rw (w, le-ltb (length space) 10 wide, e)
 
@@ -66,7 +67,7 @@ module _ (space : List ℕ) (wide : 10 ≤ length space) (τ : ℕ → ℕ) wher
     next_head : (j : ℕ) → j < l.count → head_at (next l b t) j ≡ (step_of (head_at l j) b t).head
     next_head j p = line_heads l b t space f wide j p ∙ call_fed space wide (head_at l j) b t (well_at l f.fits j p)
 
-    mute : (j : ℕ) → j < l.count → said_by (step_of (head_at l j) b t) ≡ [] → (head.byte_of (head_at l j) b t (length space)).heard ≡ Replies 0
+    mute : (j : ℕ) → j < l.count → said_by (step_of (head_at l j) b t) ≡ [] → (head.byte_of (head_at l j) b t (length space)).heard ≡ Ok 0
     mute j p e = heard_is (head_at l j) b t (well_at l f.fits j p) false (no_reply_lem (step_of (head_at l j) b t) e)
 
     -- what the line's call lays: nothing, where all heads are silent
@@ -75,12 +76,12 @@ module _ (space : List ℕ) (wide : 10 ≤ length space) (τ : ℕ → ℕ) wher
 
     -- what head k sends, where the others are
     one_laid : (k : ℕ) → k < l.count → ((j : ℕ) → j < l.count → j ≢ k → said_by (step_of (head_at l j) b t) ≡ []) → laid l b t ≡ said_by (step_of (head_at l k) b t)
-    one_laid k p others = go (step_of (head_at l k) b t).replied refl
+    one_laid k p others = go (is_some (step_of (head_at l k) b t).reply) refl
       where
         well : wellformed_of (head_at l k) ≡ true
         well = well_at l f.fits k p
 
-        go : (r : Bool) → (step_of (head_at l k) b t).replied ≡ r → laid l b t ≡ said_by (step_of (head_at l k) b t)
+        go : (r : Bool) → is_some (step_of (head_at l k) b t).reply ≡ r → laid l b t ≡ said_by (step_of (head_at l k) b t)
         go true e =
             let speaks = heard_is (head_at l k) b t well true e in
             let o : Only product.on_head l b t space k = record { there = p; speaks = speaks; others = λ j q n. mute j q (others j q n) } in

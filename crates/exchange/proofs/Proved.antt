@@ -1,6 +1,7 @@
 -- Both ends of the wire, proved of the product and of any master that does what is asked of one: ten bytes in time are one telegram told to the head (Heads),
 -- what it says is read as it was meant (Asked), who is silent is known from the question (Silence), and a line lays what its one speaker sends (OnLine).
 -- Assumes nothing.
+use Rattle.std.specs.Prelude.{Ok, is_some}
 use Prim.Native.Nat.{ℕ, ◌<◌}
 use mathlib.Core.Path.{◌≡◌, refl, sym, ◌∙◌, ap}
 use mathlib.Core.Bool.{Bool, true, false, cond, not, or-true, true≢false}
@@ -14,7 +15,6 @@ use Rattle.wire.specs.declared.telegram.Telegram.{Telegram}
 use Rattle.wire.specs.Telegram.{bytes_of}
 use Rattle.state.specs.declared.parts.Head.{Head}
 use Rattle.state.proofs.Laws.{told, stored_told}
-use Rattle.head.specs.declared.calls.Heard.TheVariants.{Replies}
 use Rattle.head.specs.Hear.{tell_of}
 use Rattle.head.specs.Calls.{node_fits, byte_of, byte_space_of}
 use Rattle.head.proofs.Nodes.{node_within}
@@ -60,7 +60,7 @@ module _ (e : Master) (does : Demanded e) where
 
     -- a telegram told to a head that does not answer it
     nothing_said : (h : Head) (t : ℕ) → unanswered q h ≡ true → said_by (tell_of h (bytes_of q) t) ≡ []
-    nothing_said h t u = let e : (tell_of h (bytes_of q) t).replied ≡ false = replied_is q a.fits a.may h t ∙ rw u in rw e
+    nothing_said h t u = let e : is_some (tell_of h (bytes_of q) t).reply ≡ false = replied_is q a.fits a.may h t ∙ rw u in rw e
 
     module _ (τ : ℕ → ℕ) (space : List ℕ) (h : Head) (g : Given τ space) (r : Ready h) where
       drawn_told : drawn product e q τ space h ≡ said_by (tell_of h (bytes_of q) (τ 9))
@@ -103,7 +103,7 @@ module _ (e : Master) (does : Demanded e) where
       nobody other = line_told l.count (λ j p n. other j p) ∙ rw (le-ltb l.count l.count (omega arith))
 
   -- a reply of a head whose number in force is not the question's is none to it
-  foreign : (q : Telegram) (h : Head) (b t : ℕ) (space : List ℕ) → Taken h space → (byte_of h b t (length space)).heard ≡ Replies 1 → h.stored.number ≢ q.node
+  foreign : (q : Telegram) (h : Head) (b t : ℕ) (space : List ℕ) → Taken h space → (byte_of h b t (length space)).heard ≡ Ok 1 → h.stored.number ≢ q.node
       → e.read q (take 10 (byte_space_of h b t space)) ≡ Foreign
   foreign q h b t space k replied n =
       does.foreign q (take 10 (byte_space_of h b t space)) (λ belongs. n (sym (sent_node h b t space k replied) ∙ belongs.node))

@@ -8,6 +8,7 @@ use mathlib.Core.Logic.{◌≢◌}
 use native.Mathlib.Omega.{arith}
 use borrow.Author.Tests.{eqb-true, eqb-false}
 use lib.Dec.{eqb, ltb}
+use Rattle.std.specs.Prelude.{is_some}
 use Rattle.wire.specs.declared.telegram.Telegram.{Telegram}
 use Rattle.wire.specs.declared.fault.Fault.{Fault}
 use Rattle.wire.specs.declared.fault.Fault.TheVariants.{WriteRefused, ReadRefused}
@@ -91,7 +92,7 @@ spoken_to t s plain mine = simp (plain, mine, else_is, command_is_not, parameter
 module _ (j : Judged) (h : Head) (w : ℕ) where
   -- of D2h: silence just to a write, where the number in force is 31 and the value in its range
   offer_said : (c : Command) (delivered low high : Bool) → j.command ≡ c → j.telegram.parameter ≡ 0xD2 → casts_of c ≡ false
-      → (reply_by (assignment_of c delivered (cond low Low (cond high High Right))) j h w).replied ≡ not (writes_of c && (delivered && (not low && not high)))
+      → is_some (reply_by (assignment_of c delivered (cond low Low (cond high High Right))) j h w) ≡ not (writes_of c && (delivered && (not low && not high)))
   unfolding range_check error_reply value_reply said silence
   offer_said Read delivered low high e p plain = refl
   offer_said Write true true high e p plain = refl
@@ -102,7 +103,7 @@ module _ (j : Judged) (h : Head) (w : ℕ) where
   offer_said Other delivered low high e p plain = refl
 
   -- of any other parameter, by a read or a write
-  value_said : (c : Command) → j.command ≡ c → eqb j.telegram.parameter 0xD2 ≡ false → casts_of c ≡ false → c ≢ Other → (value_reply j h w).replied ≡ true
+  value_said : (c : Command) → j.command ≡ c → eqb j.telegram.parameter 0xD2 ≡ false → casts_of c ≡ false → c ≢ Other → is_some (value_reply j h w) ≡ true
   unfolding value_reply said
   value_said Read e p plain known = rw e
   value_said Write e p plain known = rw (e, p)
@@ -110,7 +111,7 @@ module _ (j : Judged) (h : Head) (w : ℕ) where
   value_said Other e p plain known = absurd (known refl)
 
   other_said : (v : Verdict) → is_silent v ≡ false → eqb j.telegram.parameter 0xD2 ≡ false → casts_of j.command ≡ false → j.command ≢ Other
-      → (reply_by v j h w).replied ≡ true
+      → is_some (reply_by v j h w) ≡ true
   unfolding error_reply said
   other_said Obeyed s p plain known = value_said j.command refl p plain known
   other_said Silent s p plain known = absurd (true≢false s)
@@ -133,11 +134,11 @@ two_casts b e = rw e
 
 -- ---- a built telegram: for this head, and no broadcast
 module _ (q : Telegram) (may : May q) (h : Head) (w : ℕ) (j : Judged) (told_as : j.telegram ≡ q) (commanded : j.command ≡ command_of q.command) where
-  here_said : casts_of (command_of q.command) ≡ false → mine_of q (standing_of h) ≡ true → (reply_by (verdict_of 0 q (standing_of h)) j h w).replied ≡ not (offers q h)
+  here_said : casts_of (command_of q.command) ≡ false → mine_of q (standing_of h) ≡ true → is_some (reply_by (verdict_of 0 q (standing_of h)) j h w) ≡ not (offers q h)
   unfolding sum_check node_check ◌else◌ standing_of
   here_said plain mine = go (eqb q.parameter 0xD2) refl
     where
-      go : (d : Bool) → eqb q.parameter 0xD2 ≡ d → (reply_by (verdict_of 0 q (standing_of h)) j h w).replied ≡ not (offers q h)
+      go : (d : Bool) → eqb q.parameter 0xD2 ≡ d → is_some (reply_by (verdict_of 0 q (standing_of h)) j h w) ≡ not (offers q h)
       go true e =
           let p = eqb-true q.parameter 0xD2 e in
           rw (assignment_is 0 q (standing_of h) p, plain, mine, e, flip q.value 1, flip 31 q.value, ← (command_is q.command).1)
@@ -160,18 +161,18 @@ module _ (q : Telegram) (fits : Fits q) (may : May q) (h : Head) (at : ℕ) wher
   unfolding judged_of
   commanded = rw (built_fields q fits)
 
-  pub replied_is : (tell_of h (bytes_of q) at).replied ≡ not (unanswered q h)
+  pub replied_is : is_some (tell_of h (bytes_of q) at).reply ≡ not (unanswered q h)
   unfolding tell_of reply_of judged_of standing_of
   replied_is = go (eqb q.command 2) refl (eqb q.node h.stored.number) refl
     where
       w : ℕ
       w = carried_of j.deed h (told_of j h at)
 
-      go : (c : Bool) → eqb q.command 2 ≡ c → (n : Bool) → eqb q.node h.stored.number ≡ n → (tell_of h (bytes_of q) at).replied ≡ not (unanswered q h)
+      go : (c : Bool) → eqb q.command 2 ≡ c → (n : Bool) → eqb q.node h.stored.number ≡ n → is_some (tell_of h (bytes_of q) at).reply ≡ not (unanswered q h)
       go true c n m =
           rw c
           (cast_none j h (told_of j h at) (rw commanded (casts_is q.command ∙ c))
           (λ f r. cast_never_refused 0 q (standing_of h) f (two_casts q.command (eqb-true q.command 2 c)) (sym judged_as_lem ∙ r)))
       go false c false m = rw (c, m) (told_mute h (bytes_of q) at (rw (built_fields q fits) m))
       go false c true m =
-          rw (c, m) (ap (λ (v : Verdict). (reply_by v j h w).replied) judged_as_lem ∙ here_said q may h w j (built_fields q fits) commanded (casts_is q.command ∙ c) m)
+          rw (c, m) (ap (λ (v : Verdict). is_some (reply_by v j h w)) judged_as_lem ∙ here_said q may h w j (built_fields q fits) commanded (casts_is q.command ∙ c) m)

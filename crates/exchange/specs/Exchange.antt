@@ -1,13 +1,12 @@
 -- Both ends of the wire (document 02, request (vi)): what a head with no bytes gathered sends to a telegram that the master built, given to it whole with no
 -- gap above 10 ms, is read back as what the head meant. Of any system of calls (demands, Run) and any master.
 -- Assumes nothing.
-use Rattle.std.specs.Prelude.{ℕ, suc, ◌<◌, ◌≤◌, ◌≡◌, true, ◌≢◌, ◌⊎◌, ◌↔◌, List, [], ◌∷◌, ◌++◌, map, length, take}
+use Rattle.std.specs.Prelude.{ℕ, suc, ◌<◌, ◌≤◌, ◌≡◌, true, ◌≢◌, ◌⊎◌, ◌↔◌, List, [], ◌∷◌, ◌++◌, map, length, take, Ok}
 use Rattle.wire.specs.declared.telegram.Telegram.{Telegram}
 use Rattle.wire.specs.Telegram as wire
 use Rattle.rows.specs.Table.{row_of, address}
 use Rattle.state.specs.declared.parts.Head.{Head}
 use Rattle.state.specs.Wellformed.{wellformed_of}
-use Rattle.head.specs.declared.calls.Heard.TheVariants as heard
 use Rattle.line.specs.declared.calls.Line.{Line}
 use Rattle.line.specs.Calls.{head_at}
 use Rattle.demands.specs.Calls.{Calls, Bytes}
@@ -71,7 +70,7 @@ pub record Exchange (m : System) (e : Master) : Type 0 where
       → (drawn m e question τ space h ≡ []) ⊎ (drawn m e question σ room k ≡ [])
   -- and whatever bytes they have gathered: of two replies, each drawn by a byte, at most one belongs to the question
   pub apart : (question : Telegram) (b t c u : ℕ) (space room : List ℕ) (h k : Head) → Taken h space → Taken k room
-      → (m.on_head.byte h b t (length space)).heard ≡ heard.Replies 1 → (m.on_head.byte k c u (length room)).heard ≡ heard.Replies 1
+      → (m.on_head.byte h b t (length space)).heard ≡ Ok 1 → (m.on_head.byte k c u (length room)).heard ≡ Ok 1
       → h.stored.number ≢ k.stored.number
       → (e.read question (take 10 (m.on_head.space h b t space)) ≡ Foreign) ⊎ (e.read question (take 10 (m.on_head.space k c u room)) ≡ Foreign)
   -- on a line whose heads differ in their numbers: the head that has the question's number is heard, and no other

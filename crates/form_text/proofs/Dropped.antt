@@ -1,14 +1,15 @@
 -- Spaces dropped one by one, from the start on and from the end back.
 -- Assumes nothing.
-use Prim.Native.Nat.{ℕ, zero, suc, ◌+◌, ◌-◌, ◌<◌, ◌≤◌}
+use Rattle.std.proofs.lemmas.List.Recursion.{and_from_places, and_fails_at}
+use Prim.Native.Nat.{ℕ, zero, suc, ◌+◌, ◌-◌, ◌<◌}
 use native.Mathlib.Numerals.{add-one}
 use native.Mathlib.Omega.{arith}
-use mathlib.Core.Path.{◌≡◌, ◌∙◌}
-use mathlib.Core.Bool.{◌&&◌, and-true, and-false}
+use mathlib.Core.Path.{◌≡◌, refl, ◌∙◌}
+use mathlib.Core.Bool.{true, ◌&&◌, and-true, and-false}
 use mathlib.Core.List.{List, [], ◌∷◌, ◌++◌}
 use borrow.Author.Tests.{eq-eqb, ne_eqb}
-use lib.ListN.{length, get_or, take, drop, length-drop, drop_of_length-le}
-use lib.Seq.{drop-cons, take-suc, take_all}
+use lib.ListN.{length, get_or, take, drop, length-drop}
+use lib.Seq.{take_all}
 use Rattle.form_text.proofs.Tests.{by_test}
 use Rattle.form_text.specs.Cuts.{is_space, spaces, trimmed_start_of, trimmed_end_of}
 
@@ -16,18 +17,45 @@ use Rattle.form_text.specs.Cuts.{is_space, spaces, trimmed_start_of, trimmed_end
 pub rest : (l : List ℕ) (i : ℕ) → take (length l - i) (drop i l) ≡ drop i l
 rest l i = take_all (length l - i) (drop i l) (simp length-drop (omega arith))
 
-module _ (l : List ℕ) (i : ℕ) where
-  pub start_on : i < length l → get_or l i 0 ≡ 32 → trimmed_start_of (drop i l) ≡ trimmed_start_of (drop (i + 1) l)
-  unfolding trimmed_start_of
-  start_on h e = simp (add-one, drop-cons l i 0 h, eq-eqb (get_or l i 0) 32 e)
+-- nothing but spaces
+spaces_alone : (cs : List ℕ) → ((k : ℕ) → k < length cs → get_or cs k 0 ≡ 32) → spaces cs ≡ true
+spaces_alone cs h = and_from_places spaces is_space refl (λ _ _. refl) cs 0 (λ k l. eq-eqb (get_or cs k 0) 32 (h k l))
 
-  pub start_here : i < length l → (get_or l i 0 ≡ 32 → ⊥) → take (length l - i) (drop i l) ≡ trimmed_start_of (drop i l)
-  unfolding trimmed_start_of
-  start_here h e = rest l i ∙ simp (drop-cons l i 0 h, ne_eqb (get_or l i 0) 32 e)
+pub start_nothing : (cs : List ℕ) → ((k : ℕ) → k < length cs → get_or cs k 0 ≡ 32) → trimmed_start_of cs ≡ []
+unfolding trimmed_start_of
+start_nothing [] h = refl
+start_nothing (c ∷ cs) h = simp (eq-eqb c 32 (h 0 (omega arith))) (start_nothing cs (λ k l. h (suc k) (omega arith)))
 
-  pub start_past : length l ≤ i → take (length l - i) (drop i l) ≡ trimmed_start_of (drop i l)
-  unfolding trimmed_start_of
-  start_past h = rest l i ∙ simp (drop_of_length-le l h)
+pub end_nothing : (cs : List ℕ) → ((k : ℕ) → k < length cs → get_or cs k 0 ≡ 32) → trimmed_end_of cs ≡ []
+unfolding trimmed_end_of
+end_nothing [] h = refl
+end_nothing (c ∷ cs) h = rw (spaces_alone (c ∷ cs) h)
+
+-- the first character and the last one that are no space
+from_first : (cs : List ℕ) (i : ℕ) → i < length cs → (get_or cs i 0 ≡ 32 → ⊥) → ((k : ℕ) → k < i → get_or cs k 0 ≡ 32)
+    → drop i cs ≡ trimmed_start_of cs
+unfolding trimmed_start_of
+from_first [] i h n s = absurd (omega arith)
+from_first (c ∷ cs) zero h n s = simp (ne_eqb c 32 n)
+from_first (c ∷ cs) (suc i) h n s =
+    simp (eq-eqb c 32 (s 0 (omega arith))) (from_first cs i (omega arith) n (λ k l. s (suc k) (omega arith)))
+
+pub start_first : (cs : List ℕ) (i : ℕ) → i < length cs → (get_or cs i 0 ≡ 32 → ⊥) → ((k : ℕ) → k < i → get_or cs k 0 ≡ 32)
+    → take (length cs - i) (drop i cs) ≡ trimmed_start_of cs
+start_first cs i h n s = rest cs i ∙ from_first cs i h n s
+
+up_to_last : (cs : List ℕ) (i : ℕ) → i < length cs → (get_or cs i 0 ≡ 32 → ⊥) → ((k : ℕ) → i < k → k < length cs → get_or cs k 0 ≡ 32)
+    → take (suc i) cs ≡ trimmed_end_of cs
+unfolding trimmed_end_of
+up_to_last [] i h n s = absurd (omega arith)
+up_to_last (c ∷ cs) zero h n s = simp (ne_eqb c 32 n, end_nothing cs (λ k l. s (suc k) (omega arith) (omega arith)))
+up_to_last (c ∷ cs) (suc i) h n s =
+    let some = and_fails_at spaces is_space refl (λ _ _. refl) (c ∷ cs) (suc i) 0 h (ne_eqb (get_or cs i 0) 32 n) in
+    rw (some, up_to_last cs i (omega arith) n (λ k l m. s (suc k) (omega arith) (omega arith)))
+
+pub end_last : (cs : List ℕ) (i : ℕ) → i < length cs → (get_or cs i 0 ≡ 32 → ⊥) → ((k : ℕ) → i < k → k < length cs → get_or cs k 0 ≡ 32)
+    → take (i + 1) cs ≡ trimmed_end_of cs
+end_last cs i h n s = rw add-one (up_to_last cs i h n s)
 
 -- one character more at the end
 spaces_more : (cs : List ℕ) (c : ℕ) → spaces (cs ++ c ∷ []) ≡ spaces cs && is_space c
@@ -43,17 +71,3 @@ pub end_other : (cs : List ℕ) (c : ℕ) → (c ≡ 32 → ⊥) → trimmed_end
 unfolding trimmed_end_of
 end_other [] c e = simp (ne_eqb c 32 e)
 end_other (b ∷ cs) c e = simp (spaces_more cs c, ne_eqb c 32 e, and-false, end_other cs c e)
-
--- of the first n characters the last one is a space, and is none
-module _ (l : List ℕ) where
-  pub end_on : (n : ℕ) → 0 < n → n ≤ length l → get_or l (n - 1) 0 ≡ 32 → trimmed_end_of (take n l) ≡ trimmed_end_of (take (n - 1) l)
-  end_on zero h k e = absurd (omega arith)
-  end_on (suc n) h k e =
-      let q : suc n - 1 ≡ n = omega arith in
-      rw (q, take-suc l n 0 k) (end_space (take n l) (get_or l n 0) (rw q at e))
-
-  pub end_here : (n : ℕ) → 0 < n → n ≤ length l → (get_or l (n - 1) 0 ≡ 32 → ⊥) → trimmed_end_of (take n l) ≡ take n l
-  end_here zero h k e = absurd (omega arith)
-  end_here (suc n) h k e =
-      let q : suc n - 1 ≡ n = omega arith in
-      rw (take-suc l n 0 k) (end_other (take n l) (get_or l n 0) (rw q at e))

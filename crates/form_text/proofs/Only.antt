@@ -1,5 +1,6 @@
 -- A line is read as a row only where it is two numbers in decimal digits with a separator between them and nothing but spaces around each.
 -- Assumes nothing.
+use Rattle.std.specs.Prelude.{Some, None, Option}
 use Prim.Native.Nat.{ℕ, ◌≤◌}
 use native.Mathlib.Omega.{arith}
 use mathlib.Core.Path.{◌≡◌, refl, ap}
@@ -9,8 +10,6 @@ use borrow.Author.Tests.{ltb-false, leb-true}
 use lib.Dec.{leb, ltb, eqb}
 use lib.ListN.{length, get_or}
 use Rattle.form_text.specs.declared.rows.Entry.TheVariants as entry
-use Rattle.text.specs.declared.numbers.Number.{Number}
-use Rattle.text.specs.declared.numbers.Number.TheVariants as number
 use Rattle.text.specs.Numbers.{is_decimal, value_of, number_of}
 use Rattle.text.specs.Lines.{bare_of}
 use Rattle.form_text.specs.Cuts.{unmarked_of, trimmed_of, is_separator, front_of, others, fields_of}
@@ -27,12 +26,12 @@ pub record Says (cs : List ℕ) (v : ℕ) : Type 0 where
   pub value : value_of word ≡ v
   pub fits : v ≤ whole
 
-says : (cs : List ℕ) (v : ℕ) → said_of cs ≡ number.Is v → Says cs v
+says : (cs : List ℕ) (v : ℕ) → said_of cs ≡ Some v → Says cs v
 unfolding number_of
 says cs v h = go (trimmed_of cs) (around cs) (is_decimal (trimmed_of cs)) (leb (value_of (trimmed_of cs)) whole) refl refl h
   where
     go : (word : List ℕ) → Around cs word → (a b : Bool) → is_decimal word ≡ a → leb (value_of word) whole ≡ b
-        → cond (a && b) (number.Is (value_of word)) number.Unfit ≡ number.Is v → Says cs v
+        → cond (a && b) (Some (value_of word)) None ≡ Some v → Says cs v
     go word r true true p q k =
         let e : value_of word ≡ v = cc in
         record { word = word; around = r; decimal = p; value = e; fits = omega (arith, leb-true (value_of word) whole q) }
@@ -68,10 +67,10 @@ pub record Spells (cs : List ℕ) (x y : ℕ) : Type 0 where
   pub serial : Says left x
   pub node : Says right y
 
-paired_only : (p q : Number) {x y : ℕ} → paired_of p q ≡ entry.Row x y → (p ≡ number.Is x) × (q ≡ number.Is y)
-paired_only (number.Is m) (number.Is n) h = (cc, cc)
-paired_only (number.Is m) number.Unfit h = absurd (let z : ◌≡◌ {A = ℕ} 0 1 = cc in omega arith)
-paired_only number.Unfit q h = absurd (let z : ◌≡◌ {A = ℕ} 0 1 = cc in omega arith)
+paired_only : (p q : Option ℕ) {x y : ℕ} → paired_of p q ≡ entry.Row x y → (p ≡ Some x) × (q ≡ Some y)
+paired_only (Some m) (Some n) h = (cc, cc)
+paired_only (Some m) None h = absurd (let z : ◌≡◌ {A = ℕ} 0 1 = cc in omega arith)
+paired_only None q h = absurd (let z : ◌≡◌ {A = ℕ} 0 1 = cc in omega arith)
 
 spells : (cs : List ℕ) (x y : ℕ) → row_of (fields_of cs) ≡ entry.Row x y → Spells cs x y
 spells cs x y h = go (others cs) refl

@@ -1,5 +1,7 @@
 -- A row by the place of the line's first separator: what stands past it may be read as one field, because a separator is no digit.
 -- Assumes nothing.
+use Rattle.std.specs.Prelude.{Some, None, Option}
+use Rattle.std.specs.List.{position_or_len}
 use Prim.Native.Nat.{ℕ, ◌+◌, ◌<◌, ◌≤◌}
 use native.Mathlib.Numerals.{add-one}
 use native.Mathlib.Omega.{arith}
@@ -10,13 +12,11 @@ use borrow.Author.Tests.{leb-true, eqb-true, ne_eqb}
 use lib.Dec.{leb}
 use lib.ListN.{length, take, drop}
 use Rattle.form_text.specs.declared.rows.Entry.TheVariants as entry
-use Rattle.text.specs.declared.numbers.Number.{Number}
-use Rattle.text.specs.declared.numbers.Number.TheVariants as number
 use Rattle.text.specs.Numbers.{within, digits, number_of}
 use Rattle.form_text.specs.Cuts.{is_space, spaces, trimmed_start_of, trimmed_end_of, trimmed_of, is_separator, front_of, others, fields_of}
 use Rattle.form_text.specs.Form.{whole, paired_of, said_of, row_of}
 use Rattle.form_text.proofs.Tests.{by_test, both}
-use Rattle.form_text.proofs.Split.{fronts, one_field, front_whole, more_fields}
+use Rattle.form_text.proofs.Split.{front_size, fronts, one_field, front_whole, more_fields}
 
 -- neither a space nor a digit is a separator
 joins : (c : ℕ) → (c ≡ 44 → ⊥) → (c ≡ 59 → ⊥) → (c ≡ 9 → ⊥) → is_separator c ≡ false
@@ -55,14 +55,14 @@ unfolding trimmed_of
 alone cs h = sym (start_others cs) ∙ end_alone (trimmed_start_of cs) h
 
 -- what holds a separator is no number
-unfit : (cs : List ℕ) → digits cs ≡ false → number_of whole cs ≡ number.Unfit
+unfit : (cs : List ℕ) → digits cs ≡ false → number_of whole cs ≡ None
 unfolding number_of
 unfit [] h = refl
 unfit (c ∷ cs) h = simp h
 
-not_paired : (r : Number) → paired_of r number.Unfit ≡ entry.Malformed
-not_paired (number.Is n) = refl
-not_paired number.Unfit = refl
+not_paired : (r : Option ℕ) → paired_of r None ≡ entry.Malformed
+not_paired (Some n) = refl
+not_paired None = refl
 
 -- so that a line past its first separator may be read as one field
 pub said_past : (a cs : List ℕ) → row_of (a ∷ fields_of cs) ≡ paired_of (said_of a) (said_of cs)
@@ -76,11 +76,12 @@ said_past a cs = go (others cs) refl
     go (f ∷ fs) e = simp (unfit (trimmed_of cs) (none f fs e), not_paired (said_of a))
 
 -- the row by the place of the first separator
-module _ (l : List ℕ) (n : ℕ) (hn : n ≡ length (front_of l)) where
-  pub no_row_lem : length l ≤ n → entry.Malformed ≡ row_of (fields_of l)
-  no_row_lem h = simp (one_field l (omega arith))
+pub no_row : (l : List ℕ) → length l ≤ position_or_len is_separator l → entry.Malformed ≡ row_of (fields_of l)
+no_row l h = simp (one_field l (rw (front_size l) h))
 
-  pub a_row : n < length l → row_of (fields_of l) ≡ paired_of (said_of (take n l)) (said_of (drop (n + 1) l))
-  a_row h =
-      let f : take n l ≡ front_of l = rw hn (fronts l) in
-      simp (more_fields l (omega arith), ← hn, add-one, f, said_past)
+pub a_row : (l : List ℕ) {n : ℕ} → n ≡ position_or_len is_separator l → n < length l
+    → row_of (fields_of l) ≡ paired_of (said_of (take n l)) (said_of (drop (n + 1) l))
+a_row l {n} e h =
+    let size = e ∙ sym (front_size l) in
+    let f : take n l ≡ front_of l = rw size (fronts l) in
+    simp (more_fields l (omega arith), ← size, add-one, f, said_past)

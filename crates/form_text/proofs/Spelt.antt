@@ -1,5 +1,6 @@
 -- A row as anybody may write it: two numbers in decimal digits with a separator between them, and as many spaces around each as one likes.
 -- Assumes nothing.
+use Rattle.std.specs.Prelude.{Some}
 use Prim.Native.Nat.{ℕ, ◌≤◌}
 use native.Mathlib.Omega.{arith}
 use mathlib.Core.Path.{◌≡◌, refl, ◌∙◌}
@@ -8,7 +9,6 @@ use mathlib.Core.List.{List, [], ◌∷◌, ◌++◌}
 use borrow.Author.Tests.{leb-true, ne_eqb, le-leb}
 use lib.Dec.{leb}
 use Rattle.form_text.specs.declared.rows.Entry.TheVariants.{Row}
-use Rattle.text.specs.declared.numbers.Number.TheVariants as number
 use Rattle.text.specs.Numbers.{within, digits, is_decimal, value_of, number_of}
 use Rattle.form_text.specs.Cuts.{is_space, trimmed_start_of, trimmed_end_of, trimmed_of, is_separator, front_of, others, fields_of}
 use Rattle.form_text.specs.Form.{whole, said_of, row_of}
@@ -65,7 +65,7 @@ module _ (m n : ℕ) (cs : List ℕ) (d : is_decimal cs ≡ true) where
   one_field : others field ≡ []
   one_field = alone field (rw trimmed_field (all_digits cs d))
 
-  said_field : value_of cs ≤ whole → said_of field ≡ number.Is (value_of cs)
+  said_field : value_of cs ≤ whole → said_of field ≡ Some (value_of cs)
   unfolding number_of
   said_field h = rw (trimmed_field, d, le-leb (value_of cs) whole h)
 

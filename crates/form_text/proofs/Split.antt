@@ -1,31 +1,20 @@
 -- The fields of a line by the place of its first separator.
 -- Assumes nothing.
-use Prim.Native.Nat.{ℕ, suc, ◌+◌, ◌<◌, ◌≤◌}
-use native.Mathlib.Numerals.{add-one}
+use Rattle.std.specs.List.{position_or_len}
+use Prim.Native.Nat.{ℕ, suc, ◌<◌, ◌≤◌}
 use native.Mathlib.Nat.{not-suc-le-zero}
 use native.Mathlib.Omega.{arith}
 use mathlib.Core.Path.{◌≡◌, refl}
-use mathlib.Core.Bool.{true, false}
 use mathlib.Core.List.{List, [], ◌∷◌}
-use lib.ListN.{length, get_or, take, drop, drop_of_length-le}
-use lib.Seq.{drop-cons}
+use lib.ListN.{length, take, drop}
 use Rattle.form_text.specs.Cuts.{is_separator, front_of, others, fields_of}
 use Rattle.form_text.proofs.Tests.{by_test}
 
--- a loop up to the first separator moves on by one place or stops
-module _ (l : List ℕ) (i : ℕ) where
-  pub front_on : i < length l → is_separator (get_or l i 0) ≡ false
-      → i + length (front_of (drop i l)) ≡ i + 1 + length (front_of (drop (i + 1) l))
-  unfolding front_of
-  front_on h s = simp (add-one, drop-cons l i 0 h, s) (omega arith)
-
-  pub front_here : i < length l → is_separator (get_or l i 0) ≡ true → i + length (front_of (drop i l)) ≡ i
-  unfolding front_of
-  front_here h s = simp (drop-cons l i 0 h, s) (omega arith)
-
-  pub front_past : length l ≤ i → i + length (front_of (drop i l)) ≡ i
-  unfolding front_of
-  front_past h = simp (drop_of_length-le l h) (omega arith)
+-- how long the first field is: up to the place of the first separator
+pub front_size : (cs : List ℕ) → length (front_of cs) ≡ position_or_len is_separator cs
+unfolding front_of
+front_size [] = refl
+front_size (c ∷ cs) = by_test (is_separator c) (λ e. simp e) (λ e. simp e (omega (arith, front_size cs)))
 
 -- the first field is a part of the line; where it is the whole line there is no other, and else the others are the fields past the separator
 pub fronts : (cs : List ℕ) → take (length (front_of cs)) cs ≡ front_of cs

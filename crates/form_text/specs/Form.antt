@@ -1,11 +1,10 @@
 -- What a line of an order form means: a row with a serial and a node number, a line that is passed over, or neither.
 -- Assumes nothing.
-use Rattle.std.specs.Prelude.{ℕ, Bool, false, ◌&&◌, ◌||◌, not, cond, List, [], ◌∷◌, eqb, ltb, length, get_or}
+use Rattle.std.specs.Prelude.{ℕ, Bool, ◌&&◌, not, cond, List, [], ◌∷◌, eqb, ltb, length, get_or, Some, None, Option}
+use Rattle.std.specs.List.{list_any}
 use Prim.Native.Char.{code}
 use Rattle.form_text.specs.declared.rows.Entry.{Entry}
 use Rattle.form_text.specs.declared.rows.Entry.TheVariants as entry
-use Rattle.text.specs.declared.numbers.Number.{Number}
-use Rattle.text.specs.declared.numbers.Number.TheVariants as number
 use Rattle.text.specs.Lines.{bare_of}
 use Rattle.text.specs.Numbers.{within, number_of}
 use Rattle.form_text.specs.Cuts.{unmarked_of, trimmed_of, fields_of}
@@ -15,13 +14,13 @@ abbrev pub whole : ℕ
 whole = 4294967295
 
 -- two numbers that fit make a row
-abbrev pub paired_of : Number → Number → Entry
-paired_of (number.Is serial) (number.Is node) = entry.Row serial node
-paired_of (number.Is serial) number.Unfit = entry.Malformed
-paired_of number.Unfit node = entry.Malformed
+abbrev pub paired_of : Option ℕ → Option ℕ → Entry
+paired_of (Some serial) (Some node) = entry.Row serial node
+paired_of (Some serial) None = entry.Malformed
+paired_of None _ = entry.Malformed
 
 -- a field without the spaces around it is decimal digits of a number of 32 bits
-abbrev pub said_of : List ℕ → Number
+abbrev pub said_of : List ℕ → Option ℕ
 said_of field = number_of whole (trimmed_of field)
 
 -- a row has just two fields, the serial and the node number
@@ -33,8 +32,7 @@ row_of (a ∷ b ∷ c ∷ fields) = entry.Malformed
 
 -- some character is a digit
 unfoldable pub any_digit : List ℕ → Bool
-any_digit [] = false
-any_digit (c ∷ cs) = within (code "0") (code "9") c || any_digit cs
+any_digit cs = list_any (within (code "0") (code "9")) cs
 
 -- A line without the spaces at both ends: it is blank, or a comment, or a heading, which only the first line that is neither may be, or else a row.
 unfoldable pub read_of : List ℕ → Bool → Entry

@@ -33,29 +33,16 @@ pub fn entry(line: &[u8], top: bool, first: bool) -> Entry
 fn read(line: &[u8], first: bool) -> Entry
     ensures { result ≡ read_of line.now first }
 {
-    if line.len() == 0 {
-        return Entry::Blank;
+    match line {
+        [] | [b'#', ..] => Entry::Blank,
+        _ if first && !any_digit(line) => Entry::Heading,
+        _ => rows::row(line),
     }
-    if line[0] == b'#' {
-        return Entry::Blank;
-    }
-    if first & !any_digit(line) {
-        return Entry::Heading;
-    }
-    rows::row(line)
 }
 
 // Is there a digit in the line.
 fn any_digit(line: &[u8]) -> bool
     ensures { result ≡ any_digit line.now }
 {
-    let mut i = 0;
-    while i < line.len() {
-        let b = line[i];
-        if (b'0' <= b) & (b <= b'9') {
-            return true;
-        }
-        i += 1;
-    }
-    false
+    line.iter().any(|c| c.is_ascii_digit())
 }

@@ -5,7 +5,6 @@ ghost use Rattle.form_text.specs.Form.{paired_of, said_of, row_of};
 
 use crate::cuts;
 use text::numbers;
-use text::numbers::Number;
 
 // The largest number of 32 bits.
 const WHOLE: u32 = 4_294_967_295;
@@ -20,25 +19,19 @@ pub enum Entry {
 }
 
 // The number that a field says.
-fn said(field: &[u8]) -> Number
+fn said(field: &[u8]) -> Option<u32>
     ensures { result ≡ said_of field.now }
 {
     numbers::decimal(cuts::trimmed(field), WHOLE)
 }
 
 // The row of two numbers that fit.
-fn paired(serial: Number, node: Number) -> Entry
+fn paired(serial: Option<u32>, node: Option<u32>) -> Entry
     ensures { result ≡ paired_of serial node }
 {
-    let Number::Is(serial) = serial else {
-        return Entry::Malformed;
-    };
-    let Number::Is(node) = node else {
-        return Entry::Malformed;
-    };
-    Entry::Row {
-        serial: serial,
-        node: node,
+    match (serial, node) {
+        (Some(serial), Some(node)) => Entry::Row { serial, node },
+        _ => Entry::Malformed,
     }
 }
 
@@ -46,10 +39,8 @@ fn paired(serial: Number, node: Number) -> Entry
 pub(crate) fn row(line: &[u8]) -> Entry
     ensures { result ≡ row_of (fields_of line.now) }
 {
-    let end = cuts::front_length(line);
-    if line.len() <= end {
-        return Entry::Malformed;
+    match line.iter().position(|c| cuts::separator(*c)) {
+        Some(end) => paired(said(&line[..end]), said(&line[end + 1..])),
+        None => Entry::Malformed,
     }
-    let next = end + 1;
-    paired(said(&line[0..end]), said(&line[next..]))
 }

@@ -7,11 +7,10 @@ use mathlib.Core.Bool.{Bool, true, false, cond, not, beq, not-not, true≢false}
 use mathlib.Core.List.{List}
 use mathlib.Core.Logic.{◌⊎◌, inl, inr}
 use native.Mathlib.Nat.{zero-div}
-use native.Mathlib.Omega.{arith}
 use borrow.Author.Tests.{leb-true, leb-false, eqb-true, eq-eqb, ne_eqb}
-use lib.Bits.{bit_xor, xor_lt, xor_zero_l}
+use lib.Bits.{bit_xor, xor_zero_l}
 use lib.Dec.{leb, eqb}
-use lib.Pow.{pow-lt, split}
+use lib.Pow.{split}
 use Rattle.rows.specs.Among.{among}
 use Rattle.head.proofs.Nodes.{node_same, node_may}
 use Rattle.free_number.specs.declared.map.Map.{Map}
@@ -23,7 +22,7 @@ use Rattle.free_number.specs.Used.{bit, whole, of_whole, used, empty_of, flipped
 use Rattle.free_number.specs.Rows.{Call, adds, removes, Calls, start, ◌▸◌, is_node, refusal, rows_after, named, is_add, adding}
 use Rattle.free_number.specs.Demand.{product, step, after, number_of, IsNode, IsLowest, Words, holds, Becomes, Makes, Bits, Reads, Demanded}
 use Rattle.free_number.proofs.Lowest.{lowest_ext, count_ext, lowest_is, none_free}
-use Rattle.free_number.proofs.Maps.{used_low, used_high, flipped_low, flipped_high, used_flipped, count_words}
+use Rattle.free_number.proofs.Maps.{used_low, used_high, flipped_fits, used_flipped, count_words}
 use Rattle.free_number.proofs.Nodes.{is_node_lem, other}
 use Rattle.free_number.proofs.Rows.{row_step, after_list, count_rows}
 
@@ -95,21 +94,13 @@ held m w n l = go (leb n 64) refl
     go true e = sym (used_low m n l (leb-true n 64 e))
     go false e = sym (used_high m n w.low_fits (leb-false n 64 e))
 
-flipped_fits : (m : Map) → Words m → (n : ℕ) → IsNode n → Words (flipped m n)
-flipped_fits m w n h = go (leb n 64) refl
-  where
-    go : (b : Bool) → leb n 64 ≡ b → Words (flipped m n)
-    go true e =
-        rw (flipped_low m n w.low_fits h.0 (leb-true n 64 e))
-        (record { low_fits = xor_lt 64 m.low (2 ^ (n - 1)) w.low_fits (pow-lt {j = 64} (omega (arith, leb-true n 64 e, h.0))); high_fits = w.high_fits })
-    go false e =
-        rw (flipped_high m n w.low_fits (leb-false n 64 e))
-        (record { low_fits = w.low_fits; high_fits = xor_lt 64 m.high (2 ^ (n - 65)) w.high_fits (pow-lt {j = 64} (omega (arith, leb-false n 64 e, h.1))) })
+flipped_words : (m : Map) → Words m → (n : ℕ) → IsNode n → Words (flipped m n)
+flipped_words m w n h = let f = flipped_fits m n w.low_fits w.high_fits h.0 h.1 in record { low_fits = f.0; high_fits = f.1 }
 
 module _ (now : Bool) (m : Map) (w : Words m) (n : ℕ) (c : Change) (t : Turns now m n c) where
   becomes : IsNode n → used m n ≡ not now → Becomes m n now (flipped m n)
   becomes h e =
-      let f = flipped_fits m w n h in
+      let f = flipped_words m w n h in
       record {
         words = f;
         here = held (flipped m n) f n h.0 ∙ used_flipped m n n h.0 h.0 ∙ rw (eq-eqb n n refl, e) (not-not now);

@@ -1,14 +1,12 @@
 -- Maps and calls, and what is answered, computed by the definitions; worked out by hand from document 02.
 -- Assumes nothing.
+use Rattle.std.specs.Prelude.{Ok, Err, Some, None, Option}
 use Prim.Native.Nat.{ℕ, ◌+◌, ◌-◌, ◌^◌}
 use mathlib.Core.Path.{◌≡◌, refl}
 use mathlib.Core.List.{List, [], ◌∷◌}
 use Rattle.head.proofs.Nodes.{node_same}
 use Rattle.free_number.specs.declared.map.Map.{Map}
 use Rattle.free_number.specs.declared.map.Change.{Change}
-use Rattle.free_number.specs.declared.map.Free.{Free}
-use Rattle.free_number.specs.declared.map.Free.TheVariants.{Number, None}
-use Rattle.free_number.specs.declared.answer.Answer.TheVariants.{Done, Refused}
 use Rattle.free_number.specs.declared.answer.Refusal.{Refusal}
 use Rattle.free_number.specs.declared.answer.Refusal.TheVariants.{Outside, Taken, Unused}
 use Rattle.free_number.specs.Lowest.{span, first_free, how_many, lowest_of, count_of}
@@ -18,10 +16,10 @@ use Rattle.free_number.specs.Rows.{Calls, adds, removes, start, ◌▸◌, witho
 -- ---- two words, the lowest number that is free, and how many are used
 record Case : Type 0 where
   map : Map
-  lowest : Free
+  lowest : Option ℕ
   count : ℕ
 
-abbrev case : ℕ → ℕ → Free → ℕ → Case
+abbrev case : ℕ → ℕ → Option ℕ → ℕ → Case
 case low high lowest count = record { map = record { low = low; high = high }; lowest = lowest; count = count }
 
 abbrev Hold : List Case → Type 0
@@ -30,18 +28,18 @@ Hold (c ∷ cs) = (lowest_of (used c.map) ≡ c.lowest) × (count_of (used c.map
 
 abbrev maps : List Case
 maps =
-    case 0 0 (Number 1) 0
-    ∷ case 1 0 (Number 2) 1
-    ∷ case 0b1011 0 (Number 3) 3
-    ∷ case (2 ^ 63 - 1) 0 (Number 64) 63
-    ∷ case (2 ^ 64 - 1) 0 (Number 65) 64
-    ∷ case (2 ^ 64 - 1) 1 (Number 66) 65
-    ∷ case (2 ^ 64 - 1) (2 ^ 62 - 1) (Number 127) 126
+    case 0 0 (Some 1) 0
+    ∷ case 1 0 (Some 2) 1
+    ∷ case 0b1011 0 (Some 3) 3
+    ∷ case (2 ^ 63 - 1) 0 (Some 64) 63
+    ∷ case (2 ^ 64 - 1) 0 (Some 65) 64
+    ∷ case (2 ^ 64 - 1) 1 (Some 66) 65
+    ∷ case (2 ^ 64 - 1) (2 ^ 62 - 1) (Some 127) 126
     ∷ case (2 ^ 64 - 1) (2 ^ 63 - 1) None 127
-    ∷ case (2 ^ 63) (2 ^ 62) (Number 1) 2
+    ∷ case (2 ^ 63) (2 ^ 62) (Some 1) 2
     -- the 128th bit is ignored
-    ∷ case 0 (2 ^ 63) (Number 1) 0
-    ∷ case (2 ^ 64 - 1) (2 ^ 63 + 2 ^ 62 - 1) (Number 127) 126
+    ∷ case 0 (2 ^ 63) (Some 1) 0
+    ∷ case (2 ^ 64 - 1) (2 ^ 63 + 2 ^ 62 - 1) (Some 127) 126
     ∷ case (2 ^ 64 - 1) (2 ^ 64 - 1) None 127
     ∷ []
 
@@ -55,10 +53,10 @@ abbrev words : ℕ → ℕ → Map
 words low high = record { low = low; high = high }
 
 abbrev now : ℕ → ℕ → Change
-now low high = record { map = words low high; answer = Done }
+now low high = record { map = words low high; answer = Ok tt }
 
 abbrev still : ℕ → ℕ → Refusal → Change
-still low high why = record { map = words low high; answer = Refused why }
+still low high why = record { map = words low high; answer = Err why }
 
 record Changes : Type 0 where
   first : add_of (words 0 0) 1 ≡ now 1 0

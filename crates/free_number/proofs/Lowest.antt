@@ -1,5 +1,6 @@
 -- The lowest number that is not used and how many are, by any test: what the search finds, and that it looks at the numbers from 1 to 127 alone.
 -- Assumes nothing.
+use Rattle.std.specs.Prelude.{Some, None, Option}
 use Prim.Native.Nat.{ℕ, zero, suc, ◌+◌, ◌≤◌, ◌<◌}
 use mathlib.Core.Path.{◌≡◌, refl, sym, ap, ◌∙◌}
 use mathlib.Core.Bool.{Bool, true, false, cond, true≢false}
@@ -8,8 +9,6 @@ use native.Mathlib.Nat.{le_refl}
 use native.Mathlib.Omega.{arith}
 use borrow.Author.Tests.{eqb-true, eqb-false}
 use lib.Dec.{eqb}
-use Rattle.free_number.specs.declared.map.Free.{Free}
-use Rattle.free_number.specs.declared.map.Free.TheVariants.{Number, None}
 use Rattle.free_number.specs.Lowest.{span, first_free, how_many, lowest_of, count_of}
 use Rattle.free_number.specs.Demand.{IsNode, IsLowest}
 
@@ -67,8 +66,8 @@ unfolding count_of
 count_none = many_none 127 1
 
 -- ---- what the search finds
-abbrev IsFirst : (ℕ → Bool) → ℕ → ℕ → Free → Type 0
-IsFirst p a k (Number n) = (a ≤ n) × (n < a + k) × (p n ≡ false) × ((i : ℕ) → a ≤ i → i < n → p i ≡ true)
+abbrev IsFirst : (ℕ → Bool) → ℕ → ℕ → Option ℕ → Type 0
+IsFirst p a k (Some n) = (a ≤ n) × (n < a + k) × (p n ≡ false) × ((i : ℕ) → a ≤ i → i < n → p i ≡ true)
 IsFirst p a k None = (i : ℕ) → a ≤ i → i < a + k → p i ≡ true
 
 first_is : (k a : ℕ) (p : ℕ → Bool) → IsFirst p a k (first_free p (span a k))
@@ -81,11 +80,11 @@ first_is (suc k) a p = go (first_is k (suc a) p) (p a) refl
     from e i l h true z = ap p (sym (eqb-true a i z)) ∙ e
     from e i l h false z = let ne : a ≡ i → ⊥ = eqb-false a i z in h (omega arith)
 
-    more : p a ≡ true → (f : Free) → IsFirst p (suc a) k f → IsFirst p a (suc k) f
-    more e (Number n) h = (omega (arith, h.0), omega (arith, h.1), h.2, λ i l u. from e i l (λ g. h.3 i g u) (eqb a i) refl)
+    more : p a ≡ true → (f : Option ℕ) → IsFirst p (suc a) k f → IsFirst p a (suc k) f
+    more e (Some n) h = (omega (arith, h.0), omega (arith, h.1), h.2, λ i l u. from e i l (λ g. h.3 i g u) (eqb a i) refl)
     more e None h = λ i l u. from e i l (λ g. h i g (omega arith)) (eqb a i) refl
 
-    go : IsFirst p (suc a) k (first_free p (span (suc a) k)) → (b : Bool) → p a ≡ b → IsFirst p a (suc k) (cond b (first_free p (span (suc a) k)) (Number a))
+    go : IsFirst p (suc a) k (first_free p (span (suc a) k)) → (b : Bool) → p a ≡ b → IsFirst p a (suc k) (cond b (first_free p (span (suc a) k)) (Some a))
     go h true e = more e (first_free p (span (suc a) k)) h
     go h false e = (le_refl a, omega arith, e, λ i l u. absurd (omega arith))
 
@@ -93,11 +92,11 @@ pub lowest_is : (p : ℕ → Bool) → IsLowest p (lowest_of p)
 unfolding lowest_of
 lowest_is p = go (first_free p (span 1 127)) (first_is 127 1 p)
   where
-    go : (f : Free) → IsFirst p 1 127 f → IsLowest p f
-    go (Number n) h = ((h.0, omega (arith, h.1)), h.2, h.3)
+    go : (f : Option ℕ) → IsFirst p 1 127 f → IsLowest p f
+    go (Some n) h = ((h.0, omega (arith, h.1)), h.2, h.3)
     go None h = λ i n. h i n.0 (omega (arith, n.1))
 
 -- none is free just if all are used
-pub none_free : (p : ℕ → Bool) (f : Free) → IsLowest p f → f ≡ None ↔ ((n : ℕ) → IsNode n → p n ≡ true)
-none_free p (Number n) h = (λ e. absurd (true≢false (cc e)), λ all. absurd (true≢false (sym (all n h.0) ∙ h.1)))
+pub none_free : (p : ℕ → Bool) (f : Option ℕ) → IsLowest p f → f ≡ None ↔ ((n : ℕ) → IsNode n → p n ≡ true)
+none_free p (Some n) h = (λ e. absurd (true≢false (cc e)), λ all. absurd (true≢false (sym (all n h.0) ∙ h.1)))
 none_free p None h = (λ e. h, λ all. refl)

@@ -1,5 +1,6 @@
 -- What is asked of a keeper leaves nothing open: two keepers that do it give any two words the same answers, and the same words after any call.
 -- Assumes nothing.
+use Rattle.std.specs.Prelude.{Some, None, Option}
 use Prim.Native.Nat.{ℕ, zero, suc, ◌+◌, ◌-◌, ◌≤◌, ◌<◌, ◌/◌, ◌%◌, ◌^◌}
 use mathlib.Core.Path.{◌≡◌, refl, sym, ap, ◌∙◌}
 use mathlib.Core.Bool.{Bool, true, false, not, true≢false}
@@ -10,8 +11,6 @@ use borrow.Author.Tests.{le-leb, lt-leb, eqb-true, eqb-false}
 use lib.Dec.{eqb}
 use Rattle.free_number.specs.declared.map.Map.{Map}
 use Rattle.free_number.specs.declared.map.Change.{Change}
-use Rattle.free_number.specs.declared.map.Free.{Free}
-use Rattle.free_number.specs.declared.map.Free.TheVariants.{Number, None}
 use Rattle.free_number.specs.Used.{bit}
 use Rattle.free_number.specs.Rows.{is_node}
 use Rattle.free_number.specs.Demand.{Keeper, number_of, IsNode, IsLowest, Words, holds, Becomes, Makes, Demanded}
@@ -20,13 +19,13 @@ use Rattle.free_number.proofs.Nodes.{is_node_lem, node_is}
 use Rattle.free_number.proofs.Demands.{either}
 
 -- ---- the lowest free number is one number
-one_lowest : (p : ℕ → Bool) (f g : Free) → IsLowest p f → IsLowest p g → f ≡ g
-one_lowest p (Number a) (Number b) h k =
+one_lowest : (p : ℕ → Bool) (f g : Option ℕ) → IsLowest p f → IsLowest p g → f ≡ g
+one_lowest p (Some a) (Some b) h k =
     let le = lt_of_not-le {n = suc a} {m = b} (λ l. true≢false (sym (k.2 a h.0.0 l) ∙ h.1)) in
     let ge = lt_of_not-le {n = suc b} {m = a} (λ l. true≢false (sym (h.2 b k.0.0 l) ∙ k.1)) in
-    ap Number (omega (arith, le, ge))
-one_lowest p (Number a) None h k = absurd (true≢false (sym (k a h.0) ∙ h.1))
-one_lowest p None (Number b) h k = absurd (true≢false (sym (h b k.0) ∙ k.1))
+    ap Some (omega (arith, le, ge))
+one_lowest p (Some a) None h k = absurd (true≢false (sym (k a h.0) ∙ h.1))
+one_lowest p None (Some b) h k = absurd (true≢false (sym (h b k.0) ∙ k.1))
 one_lowest p None None h k = refl
 
 -- ---- a word is its bits

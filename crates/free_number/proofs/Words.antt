@@ -1,5 +1,6 @@
 -- One word: its bits, one of them turned over, how many are set, and the lowest that is clear.
 -- Assumes nothing.
+use Rattle.std.specs.Prelude.{Some, Option}
 use mathlib.Core.Path.{◌≡◌, refl, sym, ap, ◌∙◌}
 use mathlib.Core.Bool.{Bool, cond, not}
 use mathlib.Core.List.{List, ◌++◌}
@@ -12,8 +13,6 @@ use lib.Pow.{shr-shr, high, field, mod-mod-pow}
 use lib.Bits.{bit_xor, block_half, block_odd, xor_shr, xor_mod, xor_zero_r}
 use lib.Count.{ones, ones_step, count_trailing_zeros, under}
 use borrow.Author.Tests.{lt-ltb}
-use Rattle.free_number.specs.declared.map.Free.{Free}
-use Rattle.free_number.specs.declared.map.Free.TheVariants.{Number}
 use Rattle.free_number.specs.Lowest.{span, first_free, how_many}
 use Rattle.free_number.specs.Used.{bit}
 
@@ -81,8 +80,8 @@ tally (suc j) a w p same =
     rw (here, rest) (counts (w % 2) (ones (w / 2 % 2 ^ j)) (mod-lt w (zero-lt-suc 1))) ∙ sym (ones_suc w j)
 
 -- ---- the lowest clear bit of the j lowest is where the trailing zeros of the complement end
-step : (a j t d : ℕ) (r f : Free) → d < 2 → f ≡ cond (ltb t j) (Number (suc a + t)) r
-    → cond (eqb d 1) f (Number a) ≡ cond (ltb (under (1 - d) t) (suc j)) (Number (a + under (1 - d) t)) r
+step : (a j t d : ℕ) (r f : Option ℕ) → d < 2 → f ≡ cond (ltb t j) (Some (suc a + t)) r
+    → cond (eqb d 1) f (Some a) ≡ cond (ltb (under (1 - d) t) (suc j)) (Some (a + under (1 - d) t)) r
 step a j t zero r f h e = rw (lt-ltb 0 (suc j) (zero-lt-suc j), add-zero a)
 step a j t (suc zero) r f h e = e ∙ rw (leb-suc-suc (suc t) j, add-suc a t, suc-add a t)
 step a j t (suc (suc d)) r f h e = absurd (not-suc-le-zero (le_of_suc-le-suc (le_of_suc-le-suc h)))
@@ -98,7 +97,7 @@ clear_suc K w lt =
     rw (low, up)
 
 pub seek : (j K a w : ℕ) (p : ℕ → Bool) (more : List ℕ) → j ≤ K → w < 2 ^ K → ((i : ℕ) → i < j → p (a + i) ≡ bit w i)
-    → first_free p (span a j ++ more) ≡ cond (ltb (clear K w) j) (Number (a + clear K w)) (first_free p more)
+    → first_free p (span a j ++ more) ≡ cond (ltb (clear K w) j) (Some (a + clear K w)) (first_free p more)
 unfolding first_free span
 seek zero K a w p more le lt same = rw (leb-suc-zero (clear K w))
 seek (suc j) zero a w p more le lt same = absurd (not-suc-le-zero le)

@@ -1,12 +1,12 @@
 -- Each wrong keeper is refuted by two words of which it says something else, or makes something else, since what is asked leaves nothing open (Only).
 -- Assumes nothing.
+use Rattle.std.specs.Prelude.{Some}
 use Prim.Native.Nat.{ℕ, ◌-◌, ◌<◌, ◌^◌}
 use mathlib.Core.Path.{◌≡◌, ap}
 use mathlib.Core.Bool.{true≢false}
 use native.Mathlib.Omega.{arith}
 use Rattle.head.proofs.Nodes.{node_same}
 use Rattle.free_number.specs.declared.map.Map.{Map}
-use Rattle.free_number.specs.declared.map.Free.TheVariants.{Number}
 use Rattle.free_number.specs.Lowest.{span, first_free, how_many, lowest_of, count_of}
 use Rattle.free_number.specs.Used.{bit, whole, of_whole, used, flipped, add_of, remove_of}
 use Rattle.free_number.specs.Demand.{Keeper, product, Demanded}
@@ -42,7 +42,7 @@ pub not_highest : Demanded highest → ⊥
 unfolding lowest_of first_free span used whole bit
 not_highest d = let e = (meets highest d 0 0 (omega arith) (omega arith)).lowest in absurd (omega (arith, number e))
   where
-    number : {a b : ℕ} → Number a ≡ Number b → a ≡ b
+    number : {a b : ℕ} → Some a ≡ Some b → a ≡ b
     number e = cc
 
 -- 64 is used

@@ -1,24 +1,21 @@
 -- What is asked of a keeper of a map (document 02, request (v)), of any keeper: by the bits of any two words, and by the rows of any calls.
 -- Assumes nothing.
-use Rattle.std.specs.Prelude.{ℕ, ◌+◌, ◌-◌, ◌*◌, ◌≤◌, ◌<◌, ◌/◌, ◌%◌, ◌^◌, ◌≡◌, Bool, true, false, cond, ◌≢◌, ◌↔◌, leb, eqb, length}
+use Rattle.std.specs.Prelude.{ℕ, ◌+◌, ◌-◌, ◌*◌, ◌≤◌, ◌<◌, ◌/◌, ◌%◌, ◌^◌, ◌≡◌, Bool, true, false, cond, ◌≢◌, ◌↔◌, leb, eqb, length, Ok, Err, Result, ⊤, Some, None, Option}
 use Rattle.std.specs.Int.Count.{ones}
 use Rattle.rows.specs.Among.{among}
 use Rattle.free_number.specs.declared.map.Map.{Map}
 use Rattle.free_number.specs.declared.map.Change.{Change}
-use Rattle.free_number.specs.declared.map.Free.{Free}
-use Rattle.free_number.specs.declared.map.Free.TheVariants.{Number, None}
-use Rattle.free_number.specs.declared.answer.Answer.{Answer}
-use Rattle.free_number.specs.declared.answer.Answer.TheVariants.{Done, Refused}
 use Rattle.free_number.specs.Lowest.{count_of, lowest_of}
 use Rattle.free_number.specs.Used.{refusal_of, used, empty_of, add_of, remove_of}
 use Rattle.free_number.specs.Rows.{Call, adds, removes, Calls, start, ◌▸◌, refusal, rows_after}
+use Rattle.free_number.specs.declared.answer.Refusal.{Refusal}
 
 -- the calls on a map
 pub record Keeper : Type 0 where
   pub empty : Map
   pub add : Map → ℕ → Change
   pub remove : Map → ℕ → Change
-  pub lowest : Map → Free
+  pub lowest : Map → Option ℕ
   pub count : Map → ℕ
 
 -- the keeper that the contracts speak of
@@ -35,17 +32,17 @@ after k start = k.empty
 after k (cs ▸ c) = (step k (after k cs) c).map
 
 -- 0 where the call is done, else the number of the refusal
-abbrev pub number_of : Answer → ℕ
-number_of Done = 0
-number_of (Refused why) = refusal_of why
+abbrev pub number_of : Result ⊤ Refusal → ℕ
+number_of (Ok tt) = 0
+number_of (Err why) = refusal_of why
 
 -- ---- the lowest free number
 abbrev pub IsNode : ℕ → Type 0
 IsNode n = (1 ≤ n) × (n ≤ 127)
 
 -- it is free, and each below it is used; or all are
-abbrev pub IsLowest : (ℕ → Bool) → Free → Type 0
-IsLowest isUsed (Number n) = IsNode n × (isUsed n ≡ false) × ((i : ℕ) → 1 ≤ i → i < n → isUsed i ≡ true)
+abbrev pub IsLowest : (ℕ → Bool) → Option ℕ → Type 0
+IsLowest isUsed (Some n) = IsNode n × (isUsed n ≡ false) × ((i : ℕ) → 1 ≤ i → i < n → isUsed i ≡ true)
 IsLowest isUsed None = (i : ℕ) → IsNode i → isUsed i ≡ true
 
 -- ---- any two words
@@ -67,7 +64,7 @@ pub record Becomes (m : Map) (n : ℕ) (now : Bool) (next : Map) : Type 0 where
 pub record Makes (now : Bool) (m : Map) (n : ℕ) (c : Change) : Type 0 where
   pub seven : (IsNode n → ⊥) → (c.map ≡ m) × (number_of c.answer ≡ 7)
   pub nine : IsNode n → holds m n ≡ now → (c.map ≡ m) × (number_of c.answer ≡ 9)
-  pub done : IsNode n → holds m n ≢ now → Becomes m n now c.map × (c.answer ≡ Done)
+  pub done : IsNode n → holds m n ≢ now → Becomes m n now c.map × (c.answer ≡ (Ok tt))
 
 pub record Bits (k : Keeper) (m : Map) : Type 0 where
   pub adds : (n : ℕ) → Makes true m n (k.add m n)

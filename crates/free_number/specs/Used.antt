@@ -1,12 +1,11 @@
 -- The map of used numbers, two words of 64 bits, and what its calls answer (document 02, request (v)).
 -- Assumes nothing.
-use Rattle.std.specs.Prelude.{ℕ, ◌+◌, ◌-◌, ◌*◌, ◌/◌, ◌%◌, ◌^◌, Bool, true, false, cond, eqb}
+use Rattle.std.specs.Prelude.{ℕ, ◌+◌, ◌-◌, ◌*◌, ◌/◌, ◌%◌, ◌^◌, Bool, true, false, cond, eqb, Ok, Err}
 use Rattle.std.specs.Bool.{beq}
 use Rattle.std.specs.Int.Bits.{bit_xor}
 use Rattle.head.specs.Calls.{node_fits}
 use Rattle.free_number.specs.declared.map.Map.{Map}
 use Rattle.free_number.specs.declared.map.Change.{Change}
-use Rattle.free_number.specs.declared.answer.Answer.TheVariants.{Done, Refused}
 use Rattle.free_number.specs.declared.answer.Refusal.{Refusal}
 use Rattle.free_number.specs.declared.answer.Refusal.TheVariants.{Outside, Taken, Unused}
 
@@ -41,10 +40,10 @@ flipped m n = of_whole (bit_xor (whole m) (2 ^ (n - 1)))
 
 -- ---- the calls: 7 goes before 9, and a refused call leaves the map as it was
 abbrev pub turned : Map → ℕ → Change
-turned m n = record { map = flipped m n; answer = Done }
+turned m n = record { map = flipped m n; answer = Ok tt }
 
 abbrev pub refused : Map → Refusal → Change
-refused m why = record { map = m; answer = Refused why }
+refused m why = record { map = m; answer = Err why }
 
 -- number n is to be used, or not to be; it may be so already
 abbrev pub make_of : Map → ℕ → Bool → Refusal → Change

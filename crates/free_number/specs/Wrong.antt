@@ -1,12 +1,10 @@
 -- Keepers of a map that are wrong, each in one thing: proofs/Wrongs shows that none does what is asked (Demand).
 -- Assumes nothing.
-use Rattle.std.specs.Prelude.{ℕ, zero, suc, ◌-◌, ◌%◌, ◌^◌, Bool, cond, List, [], ◌∷◌, ltb}
+use Rattle.std.specs.Prelude.{ℕ, zero, suc, ◌-◌, ◌%◌, ◌^◌, Bool, cond, List, [], ◌∷◌, ltb, Ok, Option}
 use Rattle.std.specs.Int.Bits.{bit_xor}
 use Rattle.head.specs.Calls.{node_fits}
 use Rattle.free_number.specs.declared.map.Map.{Map}
 use Rattle.free_number.specs.declared.map.Change.{Change}
-use Rattle.free_number.specs.declared.map.Free.{Free}
-use Rattle.free_number.specs.declared.answer.Answer.TheVariants.{Done}
 use Rattle.free_number.specs.declared.answer.Refusal.TheVariants.{Outside, Taken, Unused}
 use Rattle.free_number.specs.Lowest.{span, first_free, how_many, lowest_of, count_of}
 use Rattle.free_number.specs.Used.{bit, used, empty_of, turned, refused, add_of, remove_of}
@@ -17,7 +15,7 @@ abbrev changing : (Map → ℕ → Change) → (Map → ℕ → Change) → Keep
 changing add remove = record { empty = empty_of; add = add; remove = remove; lowest = λ m. lowest_of (used m); count = λ m. count_of (used m) }
 
 -- and with other answers
-abbrev answering : (Map → Free) → (Map → ℕ) → Keeper
+abbrev answering : (Map → Option ℕ) → (Map → ℕ) → Keeper
 answering lowest count = record { empty = empty_of; add = add_of; remove = remove_of; lowest = lowest; count = count }
 
 -- the 128th bit is counted, and is offered
@@ -43,7 +41,7 @@ abbrev turned_elsewhere : Map → ℕ → Change
 turned_elsewhere m n =
     record {
       map = cond (ltb n 64) (record { low = bit_xor m.low (2 ^ (n - 1)); high = m.high }) (record { low = m.low; high = bit_xor m.high (2 ^ (n - 64)) });
-      answer = Done;
+      answer = Ok tt;
     }
 
 abbrev pub elsewhere : Keeper

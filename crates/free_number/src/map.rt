@@ -1,13 +1,16 @@
 // The map of used node numbers: any two words are one.
-ghost use Rattle.std.specs.Prelude.{◌≡◌, ◌≤◌, ◌<◌, ◌%◌, ◌^◌};
+ghost use Rattle.std.specs.Prelude.{◌≡◌, ◌≤◌};
 ghost use Rattle.free_number.specs.Lowest.{lowest_of, count_of};
-ghost use Rattle.free_number.specs.Used.{bit, used, empty_of, turned, refused, make_of, add_of, remove_of};
+ghost use Rattle.free_number.specs.Used.{whole, of_whole, used, flipped, empty_of, make_of, add_of, remove_of};
 
-use crate::answer::{Answer, Refusal};
+use crate::answer::Refusal;
 use head::calls;
 
-// The upper word without the 128th bit, which stands for no number.
-const NUMBERS: u64 = 0x7fff_ffff_ffff_ffff;
+// The highest number.
+const LAST: u32 = 127;
+
+// All bits that stand for a number: the 128th stands for none.
+const NUMBERS: u128 = 0x7fff_ffff_ffff_ffff_ffff_ffff_ffff_ffff;
 
 // Number n is used where bit n - 1, counted through both words, is set.
 #[repr(C)]
@@ -17,18 +20,49 @@ pub struct Map {
     pub high: u64,
 }
 
-// The map after a call, and what is answered to the call.
+// The map after a call, and what is answered to the call. A refused call has its map too, as it was: `Makes` (specs/Demand) asks that.
 #[derive(Clone, Copy)]
 pub struct Change {
     pub map: Map,
-    pub answer: Answer,
+    pub answer: Result<(), Refusal>,
 }
 
-// The lowest number from 1 to 127 that is not used, or that all are.
-#[derive(Clone, Copy)]
-pub enum Free {
-    Number(u32),
-    None,
+impl Map {
+    // Both words as one number.
+    #[tactic(auto, unfolding(crate::specs::Used::whole))]
+    fn whole(self) -> u128
+        ensures { result ≡ whole self }
+    {
+        u128::from(self.high) << 64 | u128::from(self.low)
+    }
+
+    // The words of such a number.
+    #[tactic(auto, unfolding(crate::specs::Used::of_whole))]
+    fn of_whole(whole: u128) -> Map
+        ensures { result ≡ of_whole whole }
+    {
+        Map {
+            low: (whole & 0xffff_ffff_ffff_ffff) as u64,
+            high: (whole >> 64) as u64,
+        }
+    }
+
+    #[tactic(auto, unfolding(crate::specs::Used::used, crate::specs::Used::bit))]
+    fn is_used(self, node: u32) -> bool
+        requires { (1 ≤ node) × (node ≤ 127) }
+        ensures { result ≡ used self node }
+    {
+        (self.whole() >> (node - 1)) % 2 == 1
+    }
+
+    // The bit of a number turned over: a number that is not used is added, one that is used is removed.
+    #[tactic(auto, unfolding(crate::specs::Used::flipped))]
+    fn flipped(self, node: u32) -> Map
+        requires { (1 ≤ node) × (node ≤ 127) }
+        ensures { result ≡ flipped self node }
+    {
+        Map::of_whole(self.whole() ^ (1 << (node - 1)))
+    }
 }
 
 // No number is used.
@@ -38,69 +72,27 @@ pub fn empty() -> Map
     Map { low: 0, high: 0 }
 }
 
-#[tactic(auto, unfolding(crate::specs::Used::bit))]
-fn bit_of(word: u64, place: u32) -> bool
-    requires { place < 64 }
-    ensures { result ≡ bit word place }
-{
-    (word >> place) % 2 == 1
-}
-
-fn one_bit(place: u32) -> u64
-    requires { place < 64 }
-    ensures { result ≡ 2 ^ place }
-{
-    1u64 << place
-}
-
-fn is_used(map: Map, node: u32) -> bool
-    requires { (1 ≤ node) × (node ≤ 127) }
-    ensures { result ≡ used map node }
-{
-    if node <= 64 {
-        bit_of(map.low, node - 1)
-    } else {
-        bit_of(map.high, node - 65)
-    }
-}
-
-// The bit of a number turned over: a number that is not used is added, one that is used is removed.
-fn turn(map: Map, node: u32) -> Change
-    requires { (1 ≤ node) × (node ≤ 127) }
-    ensures { result ≡ turned map node }
-{
-    let mut m = map;
-    if node <= 64 {
-        m.low = m.low ^ one_bit(node - 1);
-    } else {
-        m.high = m.high ^ one_bit(node - 65);
-    }
-    Change {
-        map: m,
-        answer: Answer::Done,
-    }
-}
-
-fn refuse(map: Map, why: Refusal) -> Change
-    ensures { result ≡ refused map why }
-{
-    Change {
-        map: map,
-        answer: Answer::Refused(why),
-    }
-}
-
 // A number is to be used, or not to be: refused where it is none that a head can have, then where it is so already.
+#[tactic(auto, using(head::proofs::Nodes::node_within))]
 fn make(map: Map, node: u32, used: bool, already: Refusal) -> Change
     ensures { result ≡ make_of map node used already }
 {
     if !calls::node_fits(node) {
-        return refuse(map, Refusal::Outside);
+        Change {
+            map,
+            answer: Err(Refusal::Outside),
+        }
+    } else if map.is_used(node) == used {
+        Change {
+            map,
+            answer: Err(already),
+        }
+    } else {
+        Change {
+            map: map.flipped(node),
+            answer: Ok(()),
+        }
     }
-    if is_used(map, node) == used {
-        return refuse(map, already);
-    }
-    turn(map, node)
 }
 
 // One number more.
@@ -119,30 +111,17 @@ pub fn remove(map: Map, node: u32) -> Change
     make(map, node, false, Refusal::Unused)
 }
 
-fn upper(map: Map) -> u64
-    ensures { result ≡ map.high % 2 ^ 63 }
-{
-    map.high & NUMBERS
-}
-
-// The trailing zeros of a complemented word are the place of its lowest clear bit.
-pub fn lowest_free(map: Map) -> Free
+// The lowest number from 1 to 127 that is not used, if one is.
+pub fn lowest_free(map: Map) -> Option<u32>
     ensures { result ≡ lowest_of (used map) }
 {
-    let a = u64::trailing_zeros(!map.low);
-    if a < 64 {
-        return Free::Number(a + 1);
-    }
-    let b = u64::trailing_zeros(!upper(map));
-    if b < 63 {
-        return Free::Number(b + 65);
-    }
-    Free::None
+    let lowest = map.whole().trailing_ones() + 1;
+    if lowest <= LAST { Some(lowest) } else { None }
 }
 
 // How many numbers are used: how many heads there are.
 pub fn count(map: Map) -> u32
     ensures { result ≡ count_of (used map) }
 {
-    u64::count_ones(map.low) + u64::count_ones(upper(map))
+    (map.whole() & NUMBERS).count_ones()
 }

@@ -1,7 +1,7 @@
 -- The calls that lend no space, as one, and those that do: each is its tests in their order, then the head that it makes. So refused it changes nothing, its
 -- refusal is that of the first test that fails, and it keeps a head well-formed.
 -- Assumes nothing.
-use Rattle.std.proofs.Common.{◌≡◌, ℕ, Bool, true, false, cond, not, ◌&&◌, ltb, leb, List, [], ◌∷◌, sym, refl, ◌∙◌, arith}
+use Rattle.std.proofs.Common.{◌≡◌, ℕ, Bool, true, false, cond, not, ◌&&◌, ltb, leb, List, [], ◌∷◌, sym, refl, ◌∙◌, arith, Err}
 use mathlib.Core.Option.{some}
 use Rattle.judge.proofs.Offers.{flip}
 use Rattle.state.specs.declared.parts.Head.{Head}
@@ -10,7 +10,6 @@ use Rattle.state.specs.Older.{passes_of}
 use Rattle.state.proofs.Brought.{new_passes, brought_well}
 use Rattle.head.specs.declared.refusal.Refusal.{Refusal}
 use Rattle.head.specs.declared.refusal.Refusal.TheVariants.{Keys, Space, Malformed}
-use Rattle.head.specs.declared.calls.Answer.TheVariants as answer
 use Rattle.head.specs.declared.calls.Called.{Called}
 use Rattle.head.specs.declared.calls.Fed.{Fed}
 use Rattle.head.specs.declared.hear.Stepped.{Stepped}
@@ -46,10 +45,10 @@ module _ (a : Ask) (h : Head) where
   abbrev tests : Tests
   tests = (passes_of (brings a) h, Malformed) ∷ own a
 
-  pub called_same : (why : Refusal) → (called a h).answer ≡ answer.Refused why → (called a h).head ≡ h
+  pub called_same : (why : Refusal) → (called a h).answer ≡ Err why → (called a h).head ≡ h
   called_same =
       rw (called_is a h)
-      (either (λ (c : Called). (why : Refusal) → c.answer ≡ answer.Refused why → c.head ≡ h) (refused_with h) (done_with (next a h)) tests (λ r why e. refl)
+      (either (λ (c : Called). (why : Refusal) → c.answer ≡ Err why → c.head ≡ h) (refused_with h) (done_with (next a h)) tests (λ r why e. refl)
       (λ t why e. let z : ◌≡◌ {A = ℕ} 0 1 = cc in absurd (omega arith)))
 
   pub called_refusal : of_answer (called a h).answer ≡ failed ((passes_of (brings a) h, Malformed) ∷ own a)

@@ -1,10 +1,10 @@
 -- The ways of a byte through a head, each in short: it ends no telegram, or one; and one that is sound and for another node is judged silent, which
 -- does nothing but count and start the monitor.
 -- Assumes nothing.
-use Rattle.std.proofs.Common.{◌≡◌, ℕ, Bool, true, false, not, eqb, List, length, get_or, replicate, refl, ◌∙◌, eqb-true}
+use Rattle.std.proofs.Common.{◌≡◌, ℕ, Bool, true, false, not, eqb, List, length, get_or, None, is_some, refl, ◌∙◌, eqb-true}
 use mathlib.Core.Bool.{and-eq-true_iff}
 use Rattle.wire.specs.Check.{hit_of}
-use Rattle.wire.specs.Telegram.{fields_of}
+use Rattle.wire.specs.Telegram.{fields_of, ten_in}
 use Rattle.judge.specs.declared.verdict.Verdict.TheVariants.{Silent}
 use Rattle.judge.specs.Checks.{◌else◌, sum_check, node_check}
 use Rattle.judge.specs.Commands.{command_of, casts_of}
@@ -22,13 +22,13 @@ use Rattle.effects.specs.Aimed.{targets_by}
 use Rattle.effects.proofs.Turns.{turned_same}
 use Rattle.head.specs.declared.hear.Gathered.{Gathered}
 use Rattle.head.specs.declared.hear.Stepped.{Stepped}
-use Rattle.head.specs.Hear.{gathered_of, standing_of, restarts_of, told_of, passes_of, passed_of, tell_of, step_of}
+use Rattle.head.specs.Hear.{gathered_of, standing_of, restarts_of, told_of, passes_of, passed_of, stepped, tell_of, step_of}
 use Rattle.reply.specs.Reply.{silence, reply_of}
 use Rattle.reply.proofs.Replies.{reply_ten}
 
 -- a head after a byte that draws no reply
 abbrev pub unanswered : Head → Stepped
-unanswered h = record { head = h; replied = false; reply = replicate 10 0 }
+unanswered h = stepped h None
 
 off : (b : Bool) → not b ≡ true → b ≡ false
 off true e = cc
@@ -56,19 +56,19 @@ module _ (ten : List ℕ) (h : Head) (at : ℕ) where
 
 -- the two ways of a byte, by what was gathered: it ends no telegram, or one that is told
 module _ (h : Head) (b at : ℕ) (g : Gathered) (e : g ≡ gathered_of h.ear b at) where
-  pub step_more : g.whole ≡ false → unanswered (with_ear h g.ear) ≡ step_of h b at
+  pub step_more : is_some g.ten ≡ false → unanswered (with_ear h g.ear) ≡ step_of h b at
   unfolding step_of
   step_more w = rw (← e, w)
 
-  pub step_told : g.whole ≡ true → tell_of h g.ten at ≡ step_of h b at
+  pub step_told : is_some g.ten ≡ true → tell_of h (ten_in g.ten) at ≡ step_of h b at
   unfolding step_of
   step_told w = rw (← e, w)
 
 -- whether it is sent or not, a reply has ten bytes
-pub step_ten : (h : Head) (b t : ℕ) → length (step_of h b t).reply ≡ 10
+pub step_ten : (h : Head) (b t : ℕ) → length (ten_in (step_of h b t).reply) ≡ 10
 unfolding step_of tell_of
-step_ten h b t = go (gathered_of h.ear b t).whole refl
+step_ten h b t = go (is_some (gathered_of h.ear b t).ten) refl
   where
-    go : (x : Bool) → (gathered_of h.ear b t).whole ≡ x → length (step_of h b t).reply ≡ 10
+    go : (x : Bool) → is_some (gathered_of h.ear b t).ten ≡ x → length (ten_in (step_of h b t).reply) ≡ 10
     go true e = rw e (reply_ten _ h _)
     go false e = rw e

@@ -1,7 +1,8 @@
 -- A refused call changes nothing; a refused telegram changes only what document 01 lists, the last non-zero exclusive-or (document 02, request (i)) and,
 -- where it is an offer out of range, the offer (request (ii)); a call on a well-formed head is never refused with 20.
 -- Assumes nothing.
-use Rattle.std.proofs.Common.{◌≡◌, ℕ, Bool, true, false, cond, not, ltb, ◌≢◌, List, [], ◌∷◌, ◌++◌, length, sym, refl, ◌∙◌, arith}
+use Rattle.std.specs.Prelude.{⊤}
+use Rattle.std.proofs.Common.{◌≡◌, ℕ, Bool, true, false, cond, not, ltb, ◌≢◌, List, [], ◌∷◌, ◌++◌, length, sym, refl, ◌∙◌, arith, Ok, Err, Result}
 use mathlib.Core.Option.{none, some}
 use Rattle.wire.specs.Check.{hit_of}
 use Rattle.wire.specs.Telegram.{fields_of}
@@ -27,8 +28,6 @@ use Rattle.effects.specs.Restart.{empty_ear}
 use Rattle.sheet.specs.declared.refusal.Refusal as sheet
 use Rattle.head.specs.declared.refusal.Refusal.{Refusal}
 use Rattle.head.specs.declared.refusal.Refusal.TheVariants.{Keys, Space, Sheet, Malformed}
-use Rattle.head.specs.declared.calls.Answer.{Answer}
-use Rattle.head.specs.declared.calls.Answer.TheVariants as answer
 use Rattle.head.specs.Hear.{standing_of, restarts_of, started_of, told_of, step_of}
 use Rattle.head.specs.Moves.{keyed_of}
 use Rattle.head.specs.Calls.{Tests, lent_tests, keys_tests, byte_of, byte_space_of, keys_of, keys_space_of}
@@ -54,9 +53,9 @@ refused_nothing (keys k space) h e =
     let u = lent_same h (keyed_of h k) ts space (sym (lent_refusal h (keyed_of h k) ts) ∙ e) in record { head = u.0; space = u.1 }
 refused_nothing (asked a) h {why} e = record { head = called_same a h why (go (called a h).answer e); space = refl }
   where
-    go : (x : Answer) → of_answer x ≡ some why → x ≡ answer.Refused why
-    go answer.Done e = never e
-    go (answer.Refused w) e = cc
+    go : (x : Result ⊤ Refusal) → of_answer x ≡ some why → x ≡ Err why
+    go (Ok tt) e = never e
+    go (Err w) e = cc
 
 -- ---- a refused telegram, or one that is not for this head, changes only the count of damaged ones with error 0080h and its list, the last
 -- non-zero exclusive-or, the input list, the monitor, and the bytes gathered; and a write of D2h that is refused for its range drops the offer

@@ -1,7 +1,8 @@
 -- Every call on a head keeps its serial number, refused or not (document 02, request (xi)): through each telegram by what its deed does to the stored
 -- part, and through the other calls because no key, tick or measurement touches that part and a sheet stores values alone.
 -- Assumes nothing.
-use Rattle.std.proofs.Common.{◌≡◌, ℕ, Bool, true, false, cond, ◌&&◌, [], ◌∷◌, length, refl, ap, ◌∙◌}
+use Rattle.std.proofs.Common.{◌≡◌, ℕ, Bool, true, false, cond, ◌&&◌, [], ◌∷◌, length, is_some, refl, ap, ◌∙◌}
+use Rattle.wire.specs.Telegram.{ten_in}
 use Rattle.judge.specs.declared.judged.Judged.{Judged}
 use Rattle.judge.specs.Judged.{judged_of}
 use Rattle.state.specs.declared.parts.Head.{Head}
@@ -37,7 +38,7 @@ told_kept j h at =
 pub step_serial : (h : Head) (b at : ℕ) → (step_of h b at).head.stored.serial ≡ h.stored.serial
 unfolding step_of tell_of
 step_serial h b at =
-    either_kept h (gathered_of h.ear b at).whole _ _ (told_kept (judged_of (gathered_of h.ear b at).ten (standing_of h)) h at) refl
+    either_kept h (is_some (gathered_of h.ear b at).ten) _ _ (told_kept (judged_of (ten_in (gathered_of h.ear b at).ten) (standing_of h)) h at) refl
 
 pub tick_serial : (h : Head) (at : ℕ) → (ticked_of h at).stored.serial ≡ h.stored.serial
 unfolding ticked_of

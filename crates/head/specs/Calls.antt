@@ -1,7 +1,8 @@
 -- The calls on a head and their refusals (document 01, "The line, and calls refused"; sheets, serial numbers and older heads: document 02,
 -- requests (vii), (xi) and (xii)): 20 goes before all others.
 -- Assumes nothing.
-use Rattle.std.specs.Prelude.{ℕ, Bool, cond, not, List, [], ◌∷◌, ◌++◌, length, drop, ℤ, nat_le, nat_lt}
+use Rattle.std.specs.Prelude.{ℕ, Bool, cond, not, List, [], ◌∷◌, ◌++◌, length, drop, ℤ, nat_le, nat_lt, is_some, Ok, Err, Result, ⊤}
+use Rattle.wire.specs.Telegram.{ten_in}
 use Rattle.rows.specs.Table.{row_of}
 use Rattle.rows.specs.Ranges.{fits_in}
 use Rattle.state.specs.declared.parts.Head.{Head}
@@ -12,25 +13,17 @@ use Rattle.state.specs.With.{with_stored, with_targets, with_values}
 use Rattle.effects.specs.Aimed.{turned_of}
 use Rattle.effects.specs.Restart.{restarted_of, fresh_of}
 use Rattle.sheet.specs.declared.refusal.Refusal.TheVariants as sheet
-use Rattle.sheet.specs.declared.refusal.Answer as sheet-Answer
-use Rattle.sheet.specs.declared.refusal.Answer.TheVariants as sheet-answer
 use Rattle.sheet.specs.Format.{count_of, well_formed_of}
 use Rattle.sheet.specs.Loading.{all_known_of, all_fitting_of, stored_rows}
 use Rattle.sheet.specs.Writing.{whole, sheet_of}
 use Rattle.head.specs.declared.refusal.Refusal.{Refusal}
 use Rattle.head.specs.declared.refusal.Refusal.TheVariants.{Node, OutOfReach, Keys, Space, Sheet, Malformed}
-use Rattle.head.specs.declared.calls.Answer.{Answer}
-use Rattle.head.specs.declared.calls.Answer.TheVariants as answer
 use Rattle.head.specs.declared.calls.Called.{Called}
-use Rattle.head.specs.declared.calls.Heard.TheVariants as heard
 use Rattle.head.specs.declared.calls.Fed.{Fed}
-use Rattle.head.specs.declared.calls.Hit.{Hit}
-use Rattle.head.specs.declared.calls.Hit.TheVariants as hit
-use Rattle.head.specs.declared.calls.Serial.{Serial}
-use Rattle.head.specs.declared.calls.Serial.TheVariants as serial
 use Rattle.head.specs.declared.hear.Stepped.{Stepped}
 use Rattle.head.specs.Hear.{step_of}
 use Rattle.head.specs.Moves.{ticked_of, measured_of, keyed_of}
+use Rattle.sheet.specs.declared.refusal.Refusal as sheet-Refusal
 
 -- ---- tests in their order, each with the refusal that is given where it fails: the first that fails decides
 abbrev pub Tests : Type 0
@@ -42,10 +35,10 @@ guarded refuse (t ∷ ts) done = cond t.0 (guarded refuse ts done) (refuse t.1)
 
 -- a call that was done, and one that was refused: the head is as it was
 abbrev pub done_with : Head → Called
-done_with h = record { head = h; answer = answer.Done }
+done_with h = record { head = h; answer = Ok tt }
 
 abbrev pub refused_with : Head → Refusal → Called
-refused_with h why = record { head = h; answer = answer.Refused why }
+refused_with h why = record { head = h; answer = Err why }
 
 -- a call on a head that lends no space: 20, by the test of a head that it is told, then its own tests; where all hold, the head is the one that the
 -- call makes of it
@@ -72,14 +65,14 @@ laid_on_of space x = cond (nat_lt (length space) 10) space (x ++ drop 10 space)
 
 -- what a head did with a byte or a key state: the number of replies, told apart from a refusal
 abbrev pub fed_with : Stepped → Fed
-fed_with s = record { head = s.head; heard = heard.Replies (cond s.replied 1 0) }
+fed_with s = record { head = s.head; heard = Ok (cond (is_some s.reply) 1 0) }
 
 abbrev pub unfed : Head → Refusal → Fed
-unfed h why = record { head = h; heard = heard.Refused why }
+unfed h why = record { head = h; heard = Err why }
 
 -- with one reply it stands in the first ten bytes; with none, or refused, no byte changes
 abbrev pub space_with : Stepped → List ℕ → List ℕ
-space_with s space = cond s.replied (laid_on_of space s.reply) space
+space_with s space = cond (is_some s.reply) (laid_on_of space (ten_in s.reply)) space
 
 -- a call on a head that lends space: 20, then its own tests, then 6 for a space under ten bytes; where all hold, what the head does
 abbrev pub lent_tests : Head → Tests → ℕ → Tests
@@ -121,13 +114,17 @@ power_of h = asked_of h [] (restarted_of h)
 unfoldable pub bring_of : Head → Called
 bring_of h = asked_by (older_fits h) h [] (brought_of h)
 
+-- a call that hands back no head: 20 first
+abbrev pub tested_of : Head → Result ⊤ Refusal
+tested_of h = guarded Err ((wellformed_of h, Malformed) ∷ []) (Ok tt)
+
 -- the last non-zero exclusive-or, 0 where there is none (document 02, request (i)): 20, then what is kept, whatever byte that is
-unfoldable pub last_hit_of : Head → Hit
-last_hit_of h = guarded hit.Refused ((wellformed_of h, Malformed) ∷ []) (hit.Bits h.faults.hit)
+unfoldable pub last_hit_of : Head → Result ℕ Refusal
+last_hit_of h = guarded Err ((wellformed_of h, Malformed) ∷ []) (Ok h.faults.hit)
 
 -- the serial number that the head was made with (document 02, request (xi)): 20, then what is kept, whatever number that is
-unfoldable pub serial_number_of : Head → Serial
-serial_number_of h = guarded serial.Refused ((wellformed_of h, Malformed) ∷ []) (serial.Number h.stored.serial)
+unfoldable pub serial_number_of : Head → Result ℕ Refusal
+serial_number_of h = guarded Err ((wellformed_of h, Malformed) ∷ []) (Ok h.stored.serial)
 
 -- ---- a sheet is loaded: 11, then 12, then 13; where all hold, its values are stored at the places of their addresses; and no other part of the head changes, but that
 -- alpha-numeric display may be entered or left
@@ -146,16 +143,16 @@ unfoldable pub load_of : Head → List ℕ → Called
 load_of h s = asked_of h (sheet_tests s) (loaded_of h s)
 
 -- what is answered for a sheet
-abbrev pub told_of : sheet-Answer.Answer → Answer
-told_of sheet-answer.Done = answer.Done
-told_of (sheet-answer.Refused why) = answer.Refused (Sheet why)
+abbrev pub told_of : Result ⊤ sheet-Refusal.Refusal → Result ⊤ Refusal
+told_of (Ok tt) = Ok tt
+told_of (Err why) = Err (Sheet why)
 
 -- a sheet is written: 14; it hands back no head. The space after the sheet is unchanged, and refused no byte changes
 abbrev pub save_tests : Head → ℕ → Tests
 save_tests h room = (wellformed_of h, Malformed) ∷ (not (nat_lt room whole), Sheet sheet.Short) ∷ []
 
-unfoldable pub save_of : Head → ℕ → Answer
-save_of h room = guarded answer.Refused (save_tests h room) answer.Done
+unfoldable pub save_of : Head → ℕ → Result ⊤ Refusal
+save_of h room = guarded Err (save_tests h room) (Ok tt)
 
 unfoldable pub save_space_of : Head → List ℕ → List ℕ
 save_space_of h space = guarded (λ why. space) (save_tests h (length space)) (sheet_of h.stored.values ++ drop whole space)

@@ -1,8 +1,9 @@
 -- A byte heard (document 01, "Times and keys", "A telegram's way through the head"): gathered, and with the tenth a telegram obeyed
 -- and answered.
 -- Assumes nothing.
-use Rattle.std.specs.Prelude.{ℕ, ◌+◌, ◌-◌, ◌%◌, Bool, true, false, cond, not, ◌&&◌, List, replicate, ◌==◌, nat_lt, slice_index, slice_set}
+use Rattle.std.specs.Prelude.{ℕ, ◌+◌, ◌-◌, ◌%◌, Bool, true, false, cond, not, ◌&&◌, List, ◌==◌, nat_lt, slice_index, slice_set, Some, None, Option, is_some}
 use Rattle.wire.specs.Check.{hit_of}
+use Rattle.wire.specs.Telegram.{ten_in}
 use Rattle.judge.specs.declared.deed.Deed.{Deed}
 use Rattle.judge.specs.declared.deed.Deed.TheVariants.{Nothing, Store, Reset, Restart, Calibrate, Forget, Unlock, Freeze, Aim1, Aim2, ClearStatic, Release, Offer, Withdraw}
 use Rattle.judge.specs.declared.judged.Judged.{Judged}
@@ -19,7 +20,6 @@ use Rattle.effects.specs.Faults.{counted_of, complained_of, faults_by}
 use Rattle.effects.specs.Measured.{measurement_by}
 use Rattle.effects.specs.Aimed.{turned_of, targets_by}
 use Rattle.effects.specs.Restart.{empty_ear, restarted_of}
-use Rattle.reply.specs.declared.Said.{Said}
 use Rattle.head.specs.declared.hear.Gathered.{Gathered}
 use Rattle.head.specs.declared.hear.Stepped.{Stepped}
 use Rattle.reply.specs.Reply.{reply_of}
@@ -39,8 +39,7 @@ one_more_of e b at = record { bytes = slice_set e.bytes e.count b; count = e.cou
 -- nine bytes and one make a telegram, and none is gathered then
 abbrev pub gathered_on : Ear → ℕ → ℕ → Gathered
 gathered_on e b at =
-    cond (nat_lt e.count 9) (record { whole = false; ear = one_more_of e b at; ten = replicate 10 0 })
-    (record { whole = true; ear = empty_ear at; ten = slice_set e.bytes 9 b })
+    cond (nat_lt e.count 9) (record { ear = one_more_of e b at; ten = None }) (record { ear = empty_ear at; ten = Some (slice_set e.bytes 9 b) })
 
 unfoldable pub gathered_of : Ear → ℕ → ℕ → Gathered
 gathered_of e b at = gathered_on (kept_ear e at) b at
@@ -93,8 +92,8 @@ unfoldable pub told_of : Judged → Head → ℕ → Head
 told_of j h at = cond (restarts_of j.deed) (restarted_of (affected_of j h at)) (affected_of j h at)
 
 -- the head after a telegram, and the reply to it
-abbrev pub stepped : Head → Said → Stepped
-stepped h s = record { head = h; replied = s.replied; reply = s.reply }
+abbrev pub stepped : Head → Option (List ℕ) → Stepped
+stepped h s = record { head = h; reply = s }
 
 unfoldable pub tell_of : Head → List ℕ → ℕ → Stepped
 tell_of h ten at =
@@ -119,7 +118,7 @@ passed_of h at =
 -- a byte that ends no telegram changes the bytes gathered alone, and draws no reply
 abbrev pub step_by : Head → Gathered → ℕ → Stepped
 step_by h g at =
-    cond g.whole (tell_of h g.ten at) (record { head = with_ear h g.ear; replied = false; reply = replicate 10 0 })
+    cond (is_some g.ten) (tell_of h (ten_in g.ten) at) (stepped (with_ear h g.ear) None)
 
 unfoldable pub step_of : Head → ℕ → ℕ → Stepped
 step_of h b at = step_by h (gathered_of h.ear b at) at

@@ -1,7 +1,7 @@
 -- What a tick, a measurement and a key state do to a head (document 01, "Times and keys", "Position and status"; a number that is
 -- offered: document 02, request (ii); set points that are acknowledged: request (ix); up switches nothing: request (xii)).
 -- Assumes nothing.
-use Rattle.std.specs.Prelude.{ℕ, ◌*◌, ◌/◌, ◌%◌, Bool, true, false, cond, not, ◌&&◌, replicate, ℤ, ◌==◌, nat_le, nat_lt}
+use Rattle.std.specs.Prelude.{ℕ, ◌*◌, ◌/◌, ◌%◌, Bool, cond, not, ◌&&◌, ℤ, ◌==◌, nat_le, nat_lt, Some, None}
 use Rattle.wire.specs.Faults.{code_of}
 use Rattle.wire.specs.declared.fault.Fault.TheVariants.{Timeout}
 use Rattle.state.specs.declared.parts.Head.{Head}
@@ -15,7 +15,7 @@ use Rattle.effects.specs.Aimed.{settled_of, lacking_of, all_given_of}
 use Rattle.effects.specs.Restart.{stopped, adopted_of}
 use Rattle.reply.specs.Reply.{adoption_of}
 use Rattle.head.specs.declared.hear.Stepped.{Stepped}
-use Rattle.head.specs.Hear.{elapsed_of}
+use Rattle.head.specs.Hear.{elapsed_of, stepped}
 
 -- 02h above 0 and at least 100 times 02h ms
 unfoldable pub overdue_of : ℕ → ℕ → Bool
@@ -77,5 +77,5 @@ adopts_of h keys = pressed_of keys h.keys up_key && not (h.stored.offer == 0)
 unfoldable pub keyed_of : Head → ℕ → Stepped
 keyed_of h keys =
     cond (adopts_of h keys)
-    (record { head = adopted_of (star_taken h keys); replied = true; reply = adoption_of (status_of h) h.stored.offer })
-    (record { head = star_taken h keys; replied = false; reply = replicate 10 0 })
+    (stepped (adopted_of (star_taken h keys)) (Some (adoption_of (status_of h) h.stored.offer)))
+    (stepped (star_taken h keys) None)

@@ -1,6 +1,6 @@
 -- All calls on a head as one: what is refused, and what head and lent space are afterwards. What the theorems about every call speak of.
 -- Assumes nothing.
-use Rattle.std.specs.Prelude.{ℕ, Bool, true, false, List, [], ◌∷◌, length, ℤ}
+use Rattle.std.specs.Prelude.{ℕ, Bool, true, false, List, [], ◌∷◌, length, ℤ, Ok, Err, Result, ⊤}
 use Rattle.std.proofs.Math.Option.{Option, none, some}
 use Rattle.state.specs.declared.parts.Head.{Head}
 use Rattle.state.specs.Wellformed.{in_reach_of}
@@ -8,11 +8,7 @@ use Rattle.state.specs.Older.{brought_of}
 use Rattle.effects.specs.Restart.{restarted_of}
 use Rattle.head.specs.declared.refusal.Refusal.{Refusal}
 use Rattle.head.specs.declared.refusal.Refusal.TheVariants.{OutOfReach}
-use Rattle.head.specs.declared.calls.Answer.{Answer}
-use Rattle.head.specs.declared.calls.Answer.TheVariants as answer
 use Rattle.head.specs.declared.calls.Called.{Called}
-use Rattle.head.specs.declared.calls.Heard.{Heard}
-use Rattle.head.specs.declared.calls.Heard.TheVariants as heard
 use Rattle.head.specs.Moves.{ticked_of, measured_of}
 use Rattle.head.specs.Calls.{Tests, byte_of, byte_space_of, tick_of, measure_of, keys_of, keys_space_of, power_of, bring_of, sheet_tests, loaded_of, load_of}
 
@@ -60,13 +56,13 @@ pub data Call : Type 0 where
   keys : ℕ → List ℕ → Call
   asked : Ask → Call
 
-abbrev pub of_answer : Answer → Option Refusal
-of_answer answer.Done = none
-of_answer (answer.Refused why) = some why
+abbrev pub of_answer : Result ⊤ Refusal → Option Refusal
+of_answer (Ok tt) = none
+of_answer (Err why) = some why
 
-abbrev pub of_heard : Heard → Option Refusal
-of_heard (heard.Replies n) = none
-of_heard (heard.Refused why) = some why
+abbrev pub of_heard : Result ℕ Refusal → Option Refusal
+of_heard (Ok n) = none
+of_heard (Err why) = some why
 
 -- why the call is refused, if it is
 abbrev pub refusal_by : Call → Head → Option Refusal

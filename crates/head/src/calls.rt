@@ -1,54 +1,29 @@
 // The calls on a head. Each looks first whether the head handed in is well-formed, `bring` by the old test, then refuses by the document's numbers, then
 // works.
 ghost use Rattle.std.specs.Prelude.{◌≡◌, Bool, length};
-ghost use Rattle.head.specs.Calls.{node_fits, factory_of, made_of, done_with, refused_with, laid_on_of, fed_with, unfed, space_with, byte_of, byte_space_of, tick_of, measure_of, keys_of, keys_space_of, power_of, bring_of, last_hit_of, serial_number_of, told_of, load_of, save_of, save_space_of};
+ghost use Rattle.head.specs.Calls.{node_fits, factory_of, made_of, done_with, refused_with, laid_on_of, fed_with, unfed, space_with, byte_of, byte_space_of, tick_of, measure_of, keys_of, keys_space_of, power_of, bring_of, tested_of, last_hit_of, serial_number_of, load_of, save_of, save_space_of};
 
 use crate::hear::Stepped;
 use crate::refusal::Refusal;
 use crate::{hear, moves};
 use effects::{aim, restart};
+use sheet::load::Loaded;
 use sheet::{load, write};
-use state::parts::{Head, Setting};
+use state::parts::{Head, Setting, Stored};
 use state::{older, wellformed};
-
-#[derive(Clone, Copy)]
-pub enum Answer {
-    Done,
-    Refused(Refusal),
-}
 
 #[repr(C)]
 #[derive(Clone, Copy)]
 pub struct Called {
     pub head: Head,
-    pub answer: Answer,
-}
-
-#[derive(Clone, Copy)]
-pub enum Heard {
-    Replies(usize),
-    Refused(Refusal),
+    pub answer: Result<(), Refusal>,
 }
 
 #[repr(C)]
 #[derive(Clone, Copy)]
 pub struct Fed {
     pub head: Head,
-    pub heard: Heard,
-}
-
-// Which bits of the last damaged telegram were hit: its exclusive-or, 0 where there was none since the restart.
-#[derive(Clone, Copy)]
-pub enum Hit {
-    Bits(u8),
-    Refused(Refusal),
-}
-
-// The serial number that a head was made with.
-#[derive(Clone, Copy)]
-pub enum Serial {
-    Number(u32),
-    Refused(Refusal),
+    pub heard: Result<usize, Refusal>,
 }
 
 // The head as the factory delivers it, at 31.
@@ -73,15 +48,9 @@ pub fn make(node: u32, serial: u32) -> Called
     ensures { result ≡ made_of node serial }
 {
     if node_fits(node) {
-        return Called {
-            head: restart::fresh(node, serial),
-            answer: Answer::Done,
-        };
+        return done(restart::fresh(node, serial));
     }
-    Called {
-        head: factory(serial),
-        answer: Answer::Refused(Refusal::Node),
-    }
+    refused(factory(serial), Refusal::Node)
 }
 
 // A reply at the start of the space.
@@ -92,11 +61,7 @@ pub fn lay(space: &mut [u8], x: [u8; 10])
     if space.len() < 10 {
         return;
     }
-    let mut i: usize = 0;
-    while i < 10 {
-        space[i] = x[i];
-        i += 1;
-    }
+    space[..10].copy_from_slice(&x);
 }
 
 // What a head did, with its reply laid, if there is one; and a call that was refused.
@@ -104,18 +69,16 @@ fn fed_with(s: Stepped, space: &mut [u8]) -> Fed
     ensures value { result ≡ fed_with s }
     ensures space_after { space.new ≡ space_with s space.old }
 {
-    let n = s.head;
-    if s.replied {
-        let x = s.reply;
-        lay(space, x);
+    if let Some(ten) = s.reply {
+        lay(space, ten);
         return Fed {
-            head: n,
-            heard: Heard::Replies(1),
+            head: s.head,
+            heard: Ok(1),
         };
     }
     Fed {
-        head: n,
-        heard: Heard::Replies(0),
+        head: s.head,
+        heard: Ok(0),
     }
 }
 
@@ -124,7 +87,7 @@ fn unfed(h: Head, why: Refusal) -> Fed
 {
     Fed {
         head: h,
-        heard: Heard::Refused(why),
+        heard: Err(why),
     }
 }
 
@@ -134,13 +97,13 @@ pub fn byte(h: Head, b: u8, at: u32, space: &mut [u8]) -> Fed
     ensures value { result ≡ byte_of h b at (length space.old) }
     ensures space_after { space.new ≡ byte_space_of h b at space.old }
 {
-    if wellformed::wellformed(h) {
-        if space.len() < 10 {
-            return unfed(h, Refusal::Space);
-        }
-        return fed_with(hear::step(h, b, at), space);
+    if !wellformed::wellformed(h) {
+        return unfed(h, Refusal::Malformed);
     }
-    unfed(h, Refusal::Malformed)
+    if space.len() < 10 {
+        return unfed(h, Refusal::Space);
+    }
+    fed_with(hear::step(h, b, at), space)
 }
 
 fn done(h: Head) -> Called
@@ -148,7 +111,7 @@ fn done(h: Head) -> Called
 {
     Called {
         head: h,
-        answer: Answer::Done,
+        answer: Ok(()),
     }
 }
 
@@ -157,7 +120,7 @@ fn refused(h: Head, why: Refusal) -> Called
 {
     Called {
         head: h,
-        answer: Answer::Refused(why),
+        answer: Err(why),
     }
 }
 
@@ -165,23 +128,23 @@ fn refused(h: Head, why: Refusal) -> Called
 pub fn tick(h: Head, at: u32) -> Called
     ensures { result ≡ tick_of h at }
 {
-    if wellformed::wellformed(h) {
-        return done(moves::ticked(h, at));
+    if !wellformed::wellformed(h) {
+        return refused(h, Refusal::Malformed);
     }
-    refused(h, Refusal::Malformed)
+    done(moves::ticked(h, at))
 }
 
 #[tactic(auto, unfolding(crate::specs::Calls::measure_of))]
 pub fn measure(h: Head, m: i32) -> Called
     ensures { result ≡ measure_of h m }
 {
-    if wellformed::wellformed(h) {
-        if wellformed::in_reach(m) {
-            return done(moves::measured(h, m));
-        }
+    if !wellformed::wellformed(h) {
+        return refused(h, Refusal::Malformed);
+    }
+    if !wellformed::in_reach(m) {
         return refused(h, Refusal::OutOfReach);
     }
-    refused(h, Refusal::Malformed)
+    done(moves::measured(h, m))
 }
 
 // A key state, with lent reply space: a head that adopts a number says so.
@@ -190,26 +153,26 @@ pub fn keys(h: Head, state: u32, space: &mut [u8]) -> Fed
     ensures value { result ≡ keys_of h state (length space.old) }
     ensures space_after { space.new ≡ keys_space_of h state space.old }
 {
-    if wellformed::wellformed(h) {
-        if state <= 7 {
-            if space.len() < 10 {
-                return unfed(h, Refusal::Space);
-            }
-            return fed_with(moves::keyed(h, state), space);
-        }
+    if !wellformed::wellformed(h) {
+        return unfed(h, Refusal::Malformed);
+    }
+    if 7 < state {
         return unfed(h, Refusal::Keys);
     }
-    unfed(h, Refusal::Malformed)
+    if space.len() < 10 {
+        return unfed(h, Refusal::Space);
+    }
+    fed_with(moves::keyed(h, state), space)
 }
 
 #[tactic(auto, unfolding(crate::specs::Calls::power_of))]
 pub fn power(h: Head) -> Called
     ensures { result ≡ power_of h }
 {
-    if wellformed::wellformed(h) {
-        return done(restart::restarted(h));
+    if !wellformed::wellformed(h) {
+        return refused(h, Refusal::Malformed);
     }
-    refused(h, Refusal::Malformed)
+    done(restart::restarted(h))
 }
 
 // An older head brought over: 35h 0, incremental measurement off, its absolute position, and all else as it was. Every other call that looks for
@@ -218,44 +181,38 @@ pub fn power(h: Head) -> Called
 pub fn bring(h: Head) -> Called
     ensures { result ≡ bring_of h }
 {
-    if older::passes(true, h) {
-        return done(older::brought(h));
+    if !older::passes(true, h) {
+        return refused(h, Refusal::Malformed);
     }
-    refused(h, Refusal::Malformed)
+    done(older::brought(h))
+}
+
+// The test that goes before all others, where a call hands back no head.
+fn tested(h: Head) -> Result<(), Refusal>
+    ensures { result ≡ tested_of h }
+{
+    if !wellformed::wellformed(h) {
+        return Err(Refusal::Malformed);
+    }
+    Ok(())
 }
 
 // What the last damaged telegram was hit by; whoever asks changes nothing.
 #[tactic(auto, unfolding(crate::specs::Calls::last_hit_of))]
-pub fn last_hit(h: Head) -> Hit
+pub fn last_hit(h: Head) -> Result<u8, Refusal>
     ensures { result ≡ last_hit_of h }
 {
-    if wellformed::wellformed(h) {
-        let f = h.faults;
-        return Hit::Bits(f.hit);
-    }
-    Hit::Refused(Refusal::Malformed)
+    tested(h)?;
+    Ok(h.faults.hit)
 }
 
 // The serial number; whoever asks changes nothing.
 #[tactic(auto, unfolding(crate::specs::Calls::serial_number_of))]
-pub fn serial_number(h: Head) -> Serial
+pub fn serial_number(h: Head) -> Result<u32, Refusal>
     ensures { result ≡ serial_number_of h }
 {
-    if wellformed::wellformed(h) {
-        let s = h.stored;
-        return Serial::Number(s.serial);
-    }
-    Serial::Refused(Refusal::Malformed)
-}
-
-// What is answered for a sheet.
-fn told(a: sheet::refusal::Answer) -> Answer
-    ensures { result ≡ told_of a }
-{
-    match a {
-        sheet::refusal::Answer::Done => Answer::Done,
-        sheet::refusal::Answer::Refused(why) => Answer::Refused(Refusal::Sheet(why)),
-    }
+    tested(h)?;
+    Ok(h.stored.serial)
 }
 
 // A sheet loaded, all or nothing, whatever the interlock: the values that it names, and nothing else of the head, but that alpha-numeric display may
@@ -264,50 +221,41 @@ fn told(a: sheet::refusal::Answer) -> Answer
 pub fn load(h: Head, sheet: &[u8]) -> Called
     ensures { result ≡ load_of h sheet.now }
 {
-    if wellformed::wellformed(h) {
-        let mut n = h;
-        let mut s = n.stored;
-        let v = s.values;
-        let l = load::load(v, sheet);
-        let w = l.values;
-        let a = l.answer;
-        s.values = w;
-        n.stored = s;
-        n.targets = aim::turned(v[Setting::MODE], w[Setting::MODE], h.targets);
-        return Called {
-            head: n,
-            answer: told(a),
-        };
+    if !wellformed::wellformed(h) {
+        return refused(h, Refusal::Malformed);
     }
-    refused(h, Refusal::Malformed)
+    let before = h.stored.values[Setting::MODE];
+    let Loaded { values, answer } = load::load(h.stored.values, sheet);
+    Called {
+        head: Head {
+            stored: Stored { values, ..h.stored },
+            targets: aim::turned(before, values[Setting::MODE], h.targets),
+            ..h
+        },
+        answer: answer.map_err(Refusal::Sheet),
+    }
 }
 
 // The head's settings written on a sheet at the start of the space; whoever saves changes no head.
-#[tactic(auto, unfolding(crate::specs::Calls::save_of, crate::specs::Calls::save_space_of))]
-pub fn save(h: Head, space: &mut [u8]) -> Answer
+#[tactic(auto, unfolding(crate::specs::Calls::save_of, crate::specs::Calls::save_space_of), using(crate::proofs::Sheets::save_told, crate::proofs::Sheets::space_told))]
+pub fn save(h: Head, space: &mut [u8]) -> Result<(), Refusal>
     ensures value { result ≡ save_of h (length space.old) }
     ensures space_after { space.new ≡ save_space_of h space.old }
 {
-    if wellformed::wellformed(h) {
-        let s = h.stored;
-        let v = s.values;
-        return told(write::write(v, space));
-    }
-    Answer::Refused(Refusal::Malformed)
+    tested(h)?;
+    write::write(h.stored.values, space).map_err(Refusal::Sheet)
 }
 
 // The node number in force, which a new 00h changes only at a restart.
 pub fn number_in_force(h: Head) -> u32
     ensures { result ≡ h.stored.number }
 {
-    let s = h.stored;
-    s.number
+    h.stored.number
 }
 
 // The baud setting in force.
 pub fn baud_in_force(h: Head) -> u32
     ensures { result ≡ h.stored.baud }
 {
-    let s = h.stored;
-    s.baud
+    h.stored.baud
 }

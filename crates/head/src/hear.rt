@@ -1,6 +1,6 @@
 // A byte heard: gathered, and with the tenth a telegram obeyed and answered.
 ghost use Rattle.std.specs.Prelude.{◌≡◌, Bool};
-ghost use Rattle.head.specs.Hear.{elapsed_of, kept_ear, gathered_of, standing_of, restarts_of, started_of, affected_of, told_of, passes_of, passed_of, tell_of, step_of};
+ghost use Rattle.head.specs.Hear.{elapsed_of, kept_ear, gathered_of, standing_of, started_of, affected_of, told_of, passes_of, passed_of, tell_of, step_of};
 
 use effects::{aim, errors, measure, restart, store};
 use judge::deed::Deed;
@@ -14,7 +14,7 @@ use state::parts::{Ear, Head, Monitor, Setting};
 pub fn elapsed(now: u32, then: u32) -> u32
     ensures { result ≡ elapsed_of now then }
 {
-    std::num::wrapping_sub_u32(now, then)
+    now.wrapping_sub(then)
 }
 
 // What is still gathered when a byte comes: nothing after more than 10 ms.
@@ -32,9 +32,8 @@ fn kept(e: Ear, at: u32) -> Ear
 #[repr(C)]
 #[derive(Clone, Copy)]
 pub struct Gathered {
-    pub whole: bool,
     pub ear: Ear,
-    pub ten: [u8; 10],
+    pub ten: Option<[u8; 10]>,
 }
 
 #[tactic(auto, unfolding(crate::specs::Hear::gathered_of))]
@@ -43,23 +42,16 @@ pub fn gather(ear: Ear, b: u8, at: u32) -> Gathered
 {
     let mut e = kept(ear, at);
     e.at = at;
-    let n = e.count;
-    if n < 9 {
-        e.bytes[n] = b;
-        e.count = n + 1;
-        let none = [0u8; 10];
-        return Gathered {
-            whole: false,
-            ear: e,
-            ten: none,
-        };
+    if e.count < 9 {
+        e.bytes[e.count] = b;
+        e.count += 1;
+        return Gathered { ear: e, ten: None };
     }
     let mut ten = e.bytes;
     ten[9] = b;
     Gathered {
-        whole: true,
         ear: restart::empty_ear(at),
-        ten: ten,
+        ten: Some(ten),
     }
 }
 
@@ -68,21 +60,11 @@ pub fn gather(ear: Ear, b: u8, at: u32) -> Gathered
 pub fn standing(h: Head) -> Standing
     ensures { result ≡ standing_of h }
 {
-    let s = h.stored;
-    let f = h.faults;
-    let i = f.inputs;
     Standing {
-        number: s.number,
-        locked: store::locked(s),
-        inputs: i.count,
+        number: h.stored.number,
+        locked: store::locked(h.stored),
+        inputs: h.faults.inputs.count,
     }
-}
-
-#[tactic(auto, unfolding(crate::specs::Hear::restarts_of))]
-fn restarts(d: Deed) -> bool
-    ensures { result ≡ restarts_of d }
-{
-    if let Deed::Restart = d { true } else { false }
 }
 
 // A sound telegram, for whomever, starts the monitor.
@@ -104,39 +86,31 @@ fn affected(j: Judged, h: Head, at: u32) -> Head
     ensures { result ≡ affected_of j h at }
 {
     let d = j.deed;
-    let verdict = j.verdict;
-    let s = h.stored;
-    let v = s.values;
-    let t = h.targets;
-    let g = h.measurement;
-    let f = errors::complained(verdict, errors::counted(j.hit, h.faults));
-    let mut n = h;
-    let k = store::stored_by(d, s);
-    let w = k.values;
-    n.stored = k;
-    n.faults = errors::faults_by(d, t.word, f);
-    n.measurement = measure::measurement_by(d, v, g);
-    n.targets = aim::turned(
-        v[Setting::MODE],
-        w[Setting::MODE],
-        aim::targets_by(d, v, g, t),
-    );
-    n.monitor = started(j.hit, at, h.monitor);
-    n.ear = restart::empty_ear(at);
-    n
+    let values = h.stored.values;
+    let faults = errors::complained(j.verdict, errors::counted(j.hit, h.faults));
+    let stored = store::stored_by(d, h.stored);
+    let targets = aim::targets_by(d, values, h.measurement, h.targets);
+    Head {
+        stored,
+        faults: errors::faults_by(d, h.targets.word, faults),
+        measurement: measure::measurement_by(d, values, h.measurement),
+        targets: aim::turned(values[Setting::MODE], stored.values[Setting::MODE], targets),
+        monitor: started(j.hit, at, h.monitor),
+        ear: restart::empty_ear(at),
+        ..h
+    }
 }
 
 // A0h 9 restarts the head after them.
-#[tactic(auto, unfolding(crate::specs::Hear::told_of))]
+#[tactic(auto, unfolding(crate::specs::Hear::told_of, crate::specs::Hear::restarts_of))]
 fn told(j: Judged, h: Head, at: u32) -> Head
     ensures { result ≡ told_of j h at }
 {
-    let d = j.deed;
     let n = affected(j, h, at);
-    if restarts(d) {
-        return restart::restarted(n);
+    match j.deed {
+        Deed::Restart => restart::restarted(n),
+        _ => n,
     }
-    n
 }
 
 // What a head does with a byte, a telegram or a key state: the head after it, and the reply if there is one.
@@ -144,8 +118,7 @@ fn told(j: Judged, h: Head, at: u32) -> Head
 #[derive(Clone, Copy)]
 pub struct Stepped {
     pub head: Head,
-    pub replied: bool,
-    pub reply: [u8; 10],
+    pub reply: Option<[u8; 10]>,
 }
 
 // Whether ten bytes are a sound telegram for another node.
@@ -153,7 +126,7 @@ pub struct Stepped {
 fn passes(ten: [u8; 10], number: u32) -> bool
     ensures { result ≡ passes_of ten number }
 {
-    (wire::check::hit(ten) == 0) & ((ten[0] != 2) & (ten[1] as u32 != number))
+    wire::check::hit(ten) == 0 && ten[0] != 2 && u32::from(ten[1]) != number
 }
 
 // The head after such a telegram.
@@ -161,11 +134,12 @@ fn passes(ten: [u8; 10], number: u32) -> bool
 fn passed(h: Head, at: u32) -> Head
     ensures { result ≡ passed_of h at }
 {
-    let mut n = h;
-    n.faults = errors::counted(0, h.faults);
-    n.monitor = started(0, at, h.monitor);
-    n.ear = restart::empty_ear(at);
-    n
+    Head {
+        faults: errors::counted(0, h.faults),
+        monitor: started(0, at, h.monitor),
+        ear: restart::empty_ear(at),
+        ..h
+    }
 }
 
 // A whole telegram: the head after it, and the reply. Most telegrams that a head hears are sound and for another node: they go the short way.
@@ -173,23 +147,17 @@ fn passed(h: Head, at: u32) -> Head
 pub fn tell(h: Head, ten: [u8; 10], at: u32) -> Stepped
     ensures { result ≡ tell_of h ten at }
 {
-    let own = h.stored;
-    if passes(ten, own.number) {
-        let none = [0u8; 10];
+    if passes(ten, h.stored.number) {
         return Stepped {
             head: passed(h, at),
-            replied: false,
-            reply: none,
+            reply: None,
         };
     }
     let j = judged::judge(ten, standing(h));
     let n = told(j, h, at);
-    let s = reply::reply_to(j, h, n);
-    let x = s.reply;
     Stepped {
         head: n,
-        replied: s.replied,
-        reply: x,
+        reply: reply::reply_to(j, h, n),
     }
 }
 
@@ -199,17 +167,11 @@ pub fn step(h: Head, b: u8, at: u32) -> Stepped
     ensures { result ≡ step_of h b at }
 {
     let g = gather(h.ear, b, at);
-    if g.whole {
-        let ten = g.ten;
+    if let Some(ten) = g.ten {
         return tell(h, ten, at);
     }
-    let e = g.ear;
-    let mut n = h;
-    n.ear = e;
-    let none = [0u8; 10];
     Stepped {
-        head: n,
-        replied: false,
-        reply: none,
+        head: Head { ear: g.ear, ..h },
+        reply: None,
     }
 }

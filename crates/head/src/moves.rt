@@ -14,7 +14,7 @@ use wire::fault::Fault;
 fn overdue(timeout: u32, elapsed: u32) -> bool
     ensures { result ≡ overdue_of timeout elapsed }
 {
-    (0 < timeout) & (100 * (timeout as u64) <= elapsed as u64)
+    0 < timeout && 100 * u64::from(timeout) <= u64::from(elapsed)
 }
 
 // A tick raises the timeout once, and stops the monitor.
@@ -22,15 +22,13 @@ fn overdue(timeout: u32, elapsed: u32) -> bool
 pub fn ticked(h: Head, at: u32) -> Head
     ensures { result ≡ ticked_of h at }
 {
-    let s = h.stored;
-    let v = s.values;
-    let m = h.monitor;
-    let late = overdue(v[Setting::TIMEOUT], hear::elapsed(at, m.since));
-    if m.running & late {
-        let mut n = h;
-        n.faults = errors::raised(h.faults, Fault::TIMEOUT);
-        n.monitor = restart::stopped_monitor();
-        return n;
+    let timeout = h.stored.values[Setting::TIMEOUT];
+    if h.monitor.running && overdue(timeout, hear::elapsed(at, h.monitor.since)) {
+        return Head {
+            faults: errors::raised(h.faults, Fault::Timeout.code()),
+            monitor: restart::stopped_monitor(),
+            ..h
+        };
     }
     h
 }
@@ -40,13 +38,12 @@ pub fn ticked(h: Head, at: u32) -> Head
 pub fn measured(h: Head, m: i32) -> Head
     ensures { result ≡ measured_of h m }
 {
-    let s = h.stored;
-    let v = s.values;
-    let g = measure::moved(m, h.measurement);
-    let mut n = h;
-    n.measurement = g;
-    n.targets = aim::settled(v, g, h.targets);
-    n
+    let measurement = measure::moved(m, h.measurement);
+    Head {
+        measurement,
+        targets: aim::settled(h.stored.values, measurement, h.targets),
+        ..h
+    }
 }
 
 // The keys by their weights in a key state.
@@ -62,7 +59,7 @@ fn pressed(keys: u32, before: u32, weight: u32) -> bool
     requires { 0 < weight }
     ensures { result ≡ pressed_of keys before weight }
 {
-    (keys / weight % 2 == 1) & (before / weight % 2 == 0)
+    keys / weight % 2 == 1 && before / weight % 2 == 0
 }
 
 // Left, where it is newly pressed, acknowledges a pending error; else, in alpha-numeric display, all valid set points where one lacks it; else it
@@ -71,26 +68,16 @@ fn pressed(keys: u32, before: u32, weight: u32) -> bool
 fn left(on: bool, h: Head) -> Head
     ensures { result ≡ left_of on h }
 {
-    let s = h.stored;
-    let v = s.values;
-    let f = h.faults;
+    let values = h.stored.values;
     let mut n = h;
     if on {
-        if f.pending != 0 {
-            let mut e = f;
-            e.pending = 0;
-            n.faults = e;
-            return n;
-        }
-        if mode::is_display(v[Setting::MODE]) & aim::lacking(h.targets) {
+        if h.faults.pending != 0 {
+            n.faults.pending = 0;
+        } else if mode::is_display(values[Setting::MODE]) && aim::lacking(h.targets) {
             n.targets = aim::all_given(h.targets);
-            return n;
+        } else if values[Setting::CALIBRATION_KEY] == 1 {
+            n.measurement = measure::calibrated(values, h.measurement);
         }
-        if v[Setting::CALIBRATION_KEY] == 1 {
-            n.measurement = measure::calibrated(v, h.measurement);
-            return n;
-        }
-        return n;
     }
     n
 }
@@ -100,14 +87,14 @@ fn left(on: bool, h: Head) -> Head
 fn star(on: bool, h: Head) -> Head
     ensures { result ≡ star_of on h }
 {
-    let s = h.stored;
-    let v = s.values;
-    let mut n = h;
-    if on & (mode::is_display(v[Setting::MODE]) & (v[Setting::ACKNOWLEDGEMENT] == 2)) {
-        n.targets = aim::all_given(h.targets);
-        return n;
+    let values = h.stored.values;
+    if on && mode::is_display(values[Setting::MODE]) && values[Setting::ACKNOWLEDGEMENT] == 2 {
+        return Head {
+            targets: aim::all_given(h.targets),
+            ..h
+        };
     }
-    n
+    h
 }
 
 // A key state: left is taken before star, and star before up, each when newly pressed. Where a number is offered, up adopts it: the head says
@@ -116,24 +103,16 @@ fn star(on: bool, h: Head) -> Head
 pub fn keyed(h: Head, keys: u32) -> Stepped
     ensures { result ≡ keyed_of h keys }
 {
-    let before = h.keys;
-    let offer = h.stored.offer;
-    let mut n = h;
-    n.keys = keys;
-    n = left(pressed(keys, before, LEFT), n);
-    n = star(pressed(keys, before, STAR), n);
-    if pressed(keys, before, UP) & (offer != 0) {
-        let x = reply::adoption(status::status(h), offer);
+    let n = left(pressed(keys, h.keys, LEFT), Head { keys, ..h });
+    let n = star(pressed(keys, h.keys, STAR), n);
+    if pressed(keys, h.keys, UP) && h.stored.offer != 0 {
         return Stepped {
             head: restart::adopted(n),
-            replied: true,
-            reply: x,
+            reply: Some(reply::adoption(status::status(h), h.stored.offer)),
         };
     }
-    let none = [0u8; 10];
     Stepped {
         head: n,
-        replied: false,
-        reply: none,
+        reply: None,
     }
 }

@@ -20,13 +20,8 @@ pub fn spell(bytes: &[u8], text: &mut [u8])
     if text.len() / 2 < bytes.len() {
         return;
     }
-    let mut i: usize = 0;
-    let mut at: usize = 0;
-    while i < bytes.len() {
-        let b = bytes[i];
-        text[at] = digit(b / 16);
-        text[at + 1] = digit(b % 16);
-        i += 1;
-        at += 2;
+    for (i, b) in bytes.iter().enumerate() {
+        text[2 * i] = digit(*b / 16);
+        text[2 * i + 1] = digit(*b % 16);
     }
 }

@@ -1,14 +1,13 @@
 -- What a judged telegram may do: a value that it stores lies in its row, and a number that it offers is 1 to 31 and offered to a head whose
 -- number in force is 31. By the kind of its address.
 -- Assumes nothing.
+use Rattle.std.specs.Prelude.{Some, None, Option}
 use mathlib.Core.Path.{◌≡◌, refl}
 use mathlib.Core.Bool.{true, ◌&&◌}
 use Prim.Native.Nat.{ℕ, ◌≤◌, ◌<◌}
 use borrow.Author.Tests.{eqb-true}
 use lib.Dec.{eqb}
 use Rattle.wire.specs.declared.telegram.Telegram.{Telegram}
-use Rattle.rows.specs.declared.table.Place.{Place}
-use Rattle.rows.specs.declared.table.Place.TheVariants.{At, Nowhere}
 use Rattle.rows.specs.declared.range.Range.TheVariants.{Right}
 use Rattle.rows.specs.declared.kind.Order.{Order}
 use Rattle.rows.specs.declared.kind.Order.TheVariants.{System, Calibration, Interlock, Freezing, Assignment}
@@ -59,9 +58,9 @@ module _ (number a v w : ℕ) (r : range_of a v ≡ Right) (f : eqb a 0xD2 ≡ t
   unfolding kind_of done_by
   done_allowed = go (place_of a) refl
     where
-      go : (p : Place) → place_of a ≡ p → Allowed number (done_by (stored_or p (other_of a)) v w)
-      go (At i) e = (place_below a e, range_fits a v e r)
-      go Nowhere e = other_has (λ k. Allowed number (done_by k v w)) a (λ _. tt) (λ _. tt) (λ s. tt) ordered_allowed tt
+      go : (p : Option ℕ) → place_of a ≡ p → Allowed number (done_by (stored_or p (other_of a)) v w)
+      go (Some i) e = (place_below a e, range_fits a v e r)
+      go None e = other_has (λ k. Allowed number (done_by k v w)) a (λ _. tt) (λ _. tt) (λ s. tt) ordered_allowed tt
 
 shown_allowed : (number a : ℕ) → Allowed number (shown_by a)
 unfolding shown_by

@@ -2,7 +2,7 @@
 ghost use Rattle.std.specs.Prelude.{◌≡◌, Bool};
 ghost use Rattle.judge.specs.Commands.{command_of, reads_of, writes_of, casts_of, changes_of};
 
-#[derive(Clone, Copy)]
+#[derive(Clone, Copy, PartialEq, Eq)]
 pub enum Command {
     Read,
     Write,
@@ -25,39 +25,24 @@ pub fn command_of(b: u8) -> Command
 pub fn reads(c: Command) -> bool
     ensures { result ≡ reads_of c }
 {
-    match c {
-        Command::Read => true,
-        Command::Write => false,
-        Command::Broadcast => false,
-        Command::Other => false,
-    }
+    c == Command::Read
 }
 
 pub fn writes(c: Command) -> bool
     ensures { result ≡ writes_of c }
 {
-    match c {
-        Command::Read => false,
-        Command::Write => true,
-        Command::Broadcast => false,
-        Command::Other => false,
-    }
+    c == Command::Write
 }
 
 pub fn casts(c: Command) -> bool
     ensures { result ≡ casts_of c }
 {
-    match c {
-        Command::Read => false,
-        Command::Write => false,
-        Command::Broadcast => true,
-        Command::Other => false,
-    }
+    c == Command::Broadcast
 }
 
 // A write or a broadcast.
 pub fn changes(c: Command) -> bool
     ensures { result ≡ changes_of c }
 {
-    writes(c) | casts(c)
+    writes(c) || casts(c)
 }

@@ -95,11 +95,10 @@ fn shown_by(address: u8) -> Deed
 fn refused_by(f: Fault, address: u8) -> Deed
     ensures { result ≡ refused_by f address }
 {
-    let code = f.code();
-    if ((code == Fault::BELOW) | (code == Fault::ABOVE)) & (address == 0xD2) {
-        return Deed::Withdraw;
+    match f {
+        Fault::Below | Fault::Above if address == 0xD2 => Deed::Withdraw,
+        _ => Deed::Nothing,
     }
-    Deed::Nothing
 }
 
 #[tactic(auto, unfolding(crate::specs::Deeds::deed_of))]
@@ -107,12 +106,8 @@ pub fn deed_of(v: Verdict, c: Command, k: Kind, t: Telegram) -> Deed
     ensures { result ≡ deed_of v c k t }
 {
     match v {
-        Verdict::Obeyed => {
-            if command::changes(c) {
-                return done_by(k, t.value, t.word);
-            }
-            shown_by(t.parameter)
-        }
+        Verdict::Obeyed if command::changes(c) => done_by(k, t.value, t.word),
+        Verdict::Obeyed => shown_by(t.parameter),
         Verdict::Silent => Deed::Nothing,
         Verdict::Refused(f) => refused_by(f, t.parameter),
     }

@@ -24,18 +24,18 @@ pub struct Judged {
 pub fn judge(ten: [u8; 10], s: Standing) -> Judged
     ensures { result ≡ judged_of ten s }
 {
-    let t = wire::telegram::fields(ten);
+    let telegram = wire::telegram::fields(ten);
     let hit = wire::check::hit(ten);
-    let c = command::command_of(t.command);
-    let k = rows::kind::kind_of(t.parameter);
-    let v = verdict::verdict_of(hit, t, s);
-    let d = deed::deed_of(v, c, k, t);
+    let command = command::command_of(telegram.command);
+    let kind = rows::kind::kind_of(telegram.parameter);
+    let verdict = verdict::verdict_of(hit, telegram, s);
+    let deed = deed::deed_of(verdict, command, kind, telegram);
     Judged {
-        telegram: t,
-        hit: hit,
-        command: c,
-        kind: k,
-        verdict: v,
-        deed: d,
+        telegram,
+        hit,
+        command,
+        kind,
+        verdict,
+        deed,
     }
 }

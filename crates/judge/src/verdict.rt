@@ -8,7 +8,6 @@ use crate::command::Command;
 use rows::access::Access;
 use rows::range::Range;
 use rows::table;
-use rows::table::Place;
 use wire::fault::Fault;
 use wire::telegram::Telegram;
 
@@ -34,8 +33,7 @@ fn first(a: Verdict, b: Verdict) -> Verdict
 {
     match a {
         Verdict::Obeyed => b,
-        Verdict::Silent => Verdict::Silent,
-        Verdict::Refused(f) => Verdict::Refused(f),
+        decided => decided,
     }
 }
 
@@ -45,12 +43,12 @@ fn check_sum(hit: u8, c: Command, mine: bool) -> Verdict
     ensures { result ≡ sum_check hit c mine }
 {
     if hit == 0 {
-        return Verdict::Obeyed;
+        Verdict::Obeyed
+    } else if mine && !command::casts(c) {
+        Verdict::Refused(Fault::CheckSum)
+    } else {
+        Verdict::Silent
     }
-    if mine & !command::casts(c) {
-        return Verdict::Refused(Fault::CheckSum);
-    }
-    Verdict::Silent
 }
 
 // 2. For another head.
@@ -58,10 +56,11 @@ fn check_sum(hit: u8, c: Command, mine: bool) -> Verdict
 fn check_node(c: Command, mine: bool) -> Verdict
     ensures { result ≡ node_check c mine }
 {
-    if command::casts(c) | mine {
-        return Verdict::Obeyed;
+    if command::casts(c) || mine {
+        Verdict::Obeyed
+    } else {
+        Verdict::Silent
     }
-    Verdict::Silent
 }
 
 // 3. Command above 02h.
@@ -70,10 +69,8 @@ fn check_command(c: Command) -> Verdict
     ensures { result ≡ command_check c }
 {
     match c {
-        Command::Read => Verdict::Obeyed,
-        Command::Write => Verdict::Obeyed,
-        Command::Broadcast => Verdict::Obeyed,
         Command::Other => Verdict::Refused(Fault::NoAccess),
+        _ => Verdict::Obeyed,
     }
 }
 
@@ -83,10 +80,8 @@ fn check_parameter(a: Access) -> Verdict
     ensures { result ≡ parameter_check a }
 {
     match a {
-        Access::ReadWrite => Verdict::Obeyed,
-        Access::ReadOnly => Verdict::Obeyed,
-        Access::WriteOnly => Verdict::Obeyed,
         Access::Unknown => Verdict::Refused(Fault::UnknownParameter),
+        _ => Verdict::Obeyed,
     }
 }
 
@@ -95,27 +90,12 @@ fn check_parameter(a: Access) -> Verdict
 fn check_access(c: Command, a: Access, castable: bool) -> Verdict
     ensures { result ≡ access_check c a castable }
 {
-    if command::casts(c) {
-        if castable {
-            return Verdict::Obeyed;
-        }
-        return Verdict::Silent;
-    }
     match a {
-        Access::ReadWrite => Verdict::Obeyed,
-        Access::ReadOnly => {
-            if command::writes(c) {
-                return Verdict::Refused(Fault::WriteRefused);
-            }
-            Verdict::Obeyed
-        }
-        Access::WriteOnly => {
-            if command::reads(c) {
-                return Verdict::Refused(Fault::ReadRefused);
-            }
-            Verdict::Obeyed
-        }
-        Access::Unknown => Verdict::Obeyed,
+        _ if command::casts(c) && !castable => Verdict::Silent,
+        _ if command::casts(c) => Verdict::Obeyed,
+        Access::ReadOnly if command::writes(c) => Verdict::Refused(Fault::WriteRefused),
+        Access::WriteOnly if command::reads(c) => Verdict::Refused(Fault::ReadRefused),
+        _ => Verdict::Obeyed,
     }
 }
 
@@ -124,10 +104,7 @@ fn check_access(c: Command, a: Access, castable: bool) -> Verdict
 fn lockable(address: u8) -> bool
     ensures { result ≡ lockable_of address }
 {
-    match table::place_of(address) {
-        Place::At(_) => true,
-        Place::Nowhere => address == 0xA0,
-    }
+    table::place_of(address).is_some() || address == 0xA0
 }
 
 // 6. Locked.
@@ -135,10 +112,11 @@ fn lockable(address: u8) -> bool
 fn check_lock(locked: bool, c: Command, address: u8) -> Verdict
     ensures { result ≡ lock_check locked c address }
 {
-    if locked & (command::changes(c) & lockable(address)) {
-        return Verdict::Refused(Fault::Locked);
+    if locked && command::changes(c) && lockable(address) {
+        Verdict::Refused(Fault::Locked)
+    } else {
+        Verdict::Obeyed
     }
-    Verdict::Obeyed
 }
 
 // 6. A number is offered, by D2h, where the number in force is not 31.
@@ -146,10 +124,11 @@ fn check_lock(locked: bool, c: Command, address: u8) -> Verdict
 fn check_state(number: u32, c: Command, address: u8) -> Verdict
     ensures { result ≡ state_check number c address }
 {
-    if command::changes(c) & ((address == 0xD2) & (number != 31)) {
-        return Verdict::Refused(Fault::DeviceState);
+    if command::changes(c) && address == 0xD2 && number != 31 {
+        Verdict::Refused(Fault::DeviceState)
+    } else {
+        Verdict::Obeyed
     }
-    Verdict::Obeyed
 }
 
 #[tactic(auto, unfolding(crate::specs::Checks::range_check))]
@@ -170,9 +149,10 @@ fn check_value(c: Command, g: Range) -> Verdict
     ensures { result ≡ value_check c g }
 {
     if command::changes(c) {
-        return check_range(g);
+        check_range(g)
+    } else {
+        Verdict::Obeyed
     }
-    Verdict::Obeyed
 }
 
 // 7. For 96h, a number above the count.
@@ -180,10 +160,11 @@ fn check_value(c: Command, g: Range) -> Verdict
 fn check_number(address: u8, number: u8, inputs: u32) -> Verdict
     ensures { result ≡ number_check address number inputs }
 {
-    if (address == 0x96) & (inputs < number as u32) {
-        return Verdict::Refused(Fault::Above);
+    if address == 0x96 && inputs < number as u32 {
+        Verdict::Refused(Fault::Above)
+    } else {
+        Verdict::Obeyed
     }
-    Verdict::Obeyed
 }
 
 // A refused broadcast is silent.
@@ -191,14 +172,10 @@ fn check_number(address: u8, number: u8, inputs: u32) -> Verdict
 fn hush(c: Command, v: Verdict) -> Verdict
     ensures { result ≡ hush_of c v }
 {
-    if command::casts(c) {
-        return match v {
-            Verdict::Obeyed => Verdict::Obeyed,
-            Verdict::Silent => Verdict::Silent,
-            Verdict::Refused(_) => Verdict::Silent,
-        };
+    match v {
+        Verdict::Refused(_) if command::casts(c) => Verdict::Silent,
+        _ => v,
     }
-    v
 }
 
 // Checks 3 to 7.
@@ -227,8 +204,8 @@ pub fn verdict_of(hit: u8, t: Telegram, s: Standing) -> Verdict
     let c = command::command_of(t.command);
     let mine = t.node as u32 == s.number;
     let early = first(check_sum(hit, c, mine), check_node(c, mine));
-    if let Verdict::Obeyed = early {
-        return late(t, s);
+    match early {
+        Verdict::Obeyed => late(t, s),
+        _ => early,
     }
-    early
 }

@@ -2,6 +2,7 @@
 -- keeps each head's keeps them all.
 -- Assumes nothing.
 use Prim.Native.Nat.{ℕ, zero, suc, ◌<◌, ◌≤◌}
+use Rattle.std.specs.List.{list_any, fold}
 use mathlib.Core.Path.{◌≡◌, refl, sym, ap, ◌∙◌}
 use mathlib.Core.Logic.{◌≢◌}
 use mathlib.Core.Bool.{Bool, true, false, not, ◌&&◌, ◌||◌, and-eq-true_iff}
@@ -17,7 +18,9 @@ use Rattle.state.specs.declared.parts.Head.{Head}
 use Rattle.state.specs.Older.{passes_of}
 use Rattle.line.specs.Round.{each, all_pass_of}
 use Rattle.line.specs.Serials.{serials_of, all_differ}
-use Rattle.line.proofs.Laws.{fit_turn}
+use Rattle.line.specs.declared.calls.Line.{Line}
+use Rattle.line.specs.Calls.{fits_by}
+use Rattle.line.proofs.Laws.{fit_turn, by_few}
 
 -- ---- one more at the end
 or_assoc : (a b c : Bool) → (a || (b || c)) ≡ ((a || b) || c)
@@ -28,6 +31,15 @@ pub among_last : (xs : List ℕ) (x a : ℕ) → among (xs ++ (x ∷ [])) a ≡ 
 among_last [] x a = refl
 among_last (y ∷ ys) x a =
     among_more y (ys ++ (x ∷ [])) a ∙ rw (among_last ys x a, among_more y ys a) (or_assoc (eqb a y) (among ys a) (eqb a x))
+
+-- whether a number is on a list, one after another
+pub among_fold : (xs : List ℕ) (a : ℕ) → fold (λ found x. found || eqb a x) false xs ≡ among xs a
+among_fold xs a = go false xs
+  where
+    go : (b : Bool) (ys : List ℕ) → fold (λ found x. found || eqb a x) b ys ≡ (b || among ys a)
+    go true [] = refl
+    go false [] = refl
+    go b (y ∷ ys) = rw (go (b || eqb a y) ys, among_more y ys a) (sym (or_assoc b (eqb a y) (among ys a)))
 
 -- they differ where the others do and it is none of these
 pub differ_last : (xs : List ℕ) (x : ℕ) → all_differ (xs ++ (x ∷ [])) ≡ (all_differ xs && not (among xs x))
@@ -47,12 +59,13 @@ serials_turn d i [] p = absurd (not-suc-le-zero p)
 serials_turn d zero (h ∷ hs) p = refl
 serials_turn d (suc i) (h ∷ hs) p = rw (serials_turn d i hs (le_of_suc-le-suc p))
 
--- the first i of an array, and then the ith
-pub take_last : (i : ℕ) (xs : List ℕ) → i < length xs → take (suc i) xs ≡ take i xs ++ (get_or xs i 0 ∷ [])
-take_last i [] p = absurd (not-suc-le-zero p)
-take_last zero (x ∷ xs) p = refl
-take_last (suc i) (x ∷ xs) p = rw (take_last i xs (le_of_suc-le-suc p))
+-- whether one of the first n heads has a number
+pub among_heads : (s n : ℕ) (hs : List Head) → list_any (λ h. eqb h.stored.serial s) (take n hs) ≡ among (serials_of n hs) s
+among_heads s zero hs = refl
+among_heads s (suc n) [] = refl
+among_heads s (suc n) (h ∷ hs) = rw (among_more h.stored.serial (serials_of n hs) s, among_heads s n hs, eqb_turned s h.stored.serial)
 
+-- the first i of an array, and then the ith, which was put there
 pub take_set : (i : ℕ) (xs : List ℕ) (v : ℕ) → i < length xs → take (suc i) (set xs i v) ≡ take i xs ++ (v ∷ [])
 take_set i [] v p = absurd (not-suc-le-zero p)
 take_set zero (x ∷ xs) v p = refl
@@ -144,3 +157,18 @@ both_turn b d i hs p =
     go true false true n = refl
     go true false false n = refl
     go false s w n = refl
+
+-- only the heads below the count are looked at
+pub by_first : (b : Bool) (l : Line) → l.count ≤ 32
+    → fits_by b l ≡ (all_pass_of b l.count (take l.count l.heads) && all_differ (serials_of l.count (take l.count l.heads)))
+by_first b l p = by_few b l p ∙ rw (pass_first l.count l.heads, serials_first l.count l.heads)
+  where
+    pass_first : (n : ℕ) (hs : List Head) → all_pass_of b n (take n hs) ≡ all_pass_of b n hs
+    pass_first zero hs = refl
+    pass_first (suc n) [] = refl
+    pass_first (suc n) (h ∷ hs) = rw (pass_first n hs)
+
+    serials_first : (n : ℕ) (hs : List Head) → serials_of n (take n hs) ≡ serials_of n hs
+    serials_first zero hs = refl
+    serials_first (suc n) [] = refl
+    serials_first (suc n) (h ∷ hs) = rw (serials_first n hs)

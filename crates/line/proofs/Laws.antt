@@ -1,16 +1,18 @@
 -- Laws of the round that a byte and a tick make over the heads, and of a line that fits. None opens what a single head does.
 -- Assumes nothing.
+use Rattle.std.specs.Prelude.{Some, None, Option, is_some}
 use Prim.Native.Nat.{ℕ, zero, suc, ◌+◌, ◌<◌, ◌≤◌}
-use mathlib.Core.Path.{◌≡◌, refl, ap, ◌∙◌}
+use mathlib.Core.Path.{◌≡◌, refl, ◌∙◌}
 use mathlib.Core.Logic.{◌≢◌}
 use mathlib.Core.Bool.{Bool, true, false, cond, ◌&&◌, and-true, and_assoc, and-eq-true_iff}
-use mathlib.Core.List.{List, [], ◌∷◌, ◌++◌, append_assoc, append-nil}
+use mathlib.Core.List.{List, [], ◌∷◌, ◌++◌, map, append_assoc, append-nil}
 use native.Mathlib.Omega.{arith}
 use native.Mathlib.Numerals.{add-one}
 use native.Mathlib.Nat.{le_of_suc-le-suc, not-suc-le-zero}
 use borrow.Author.Tests.{le-leb, lt-leb, leb-true, ne_eqb}
 use lib.Dec.{leb}
-use lib.ListN.{length, get_or, set, replicate, length-append}
+use lib.ListN.{length, get_or, set, take, drop, length-append}
+use Rattle.wire.specs.Telegram.{ten_in}
 use Rattle.state.specs.declared.parts.Head.{Head}
 use Rattle.state.specs.Wellformed.{wellformed_of}
 use Rattle.state.specs.Older.{passes_of}
@@ -19,7 +21,7 @@ use Rattle.head.specs.Hear.{step_of}
 use Rattle.head.proofs.Asked.{passes}
 use Rattle.line.specs.declared.round.Replies.{Replies}
 use Rattle.line.specs.declared.calls.Line.{Line}
-use Rattle.line.specs.Round.{each, all_pass_of, all_fit, said_by, replies_by, replies_of, no_reply, counted, laid_for}
+use Rattle.line.specs.Round.{each, all_pass_of, all_fit, said_by, replies_by, replies_of, no_reply, counted, last_or, tally, laid_for}
 use Rattle.line.specs.Serials.{all_differ}
 use Rattle.line.specs.Calls.{serials_at, fits_by, fits_of, laid_by_of}
 
@@ -29,6 +31,16 @@ each_turn : {A : Type 0} (f : A → A) (d : A) (i : ℕ) (xs : List A) → i < l
 each_turn f d i [] p = absurd (not-suc-le-zero p)
 each_turn f d zero (x ∷ xs) p = refl
 each_turn f d (suc i) (x ∷ xs) p = rw (each_turn f d i xs (le_of_suc-le-suc p))
+
+-- f at the first n elements is a map of these, before the rest
+pub each_map : {A : Type 0} (f : A → A) (n : ℕ) (xs : List A) → map f (take n xs) ++ drop n xs ≡ each f n xs
+each_map f zero xs = refl
+each_map f (suc n) [] = refl
+each_map f (suc n) (x ∷ xs) = rw (each_map f n xs)
+
+each_all : {A : Type 0} (f : A → A) (xs : List A) → each f (length xs) xs ≡ map f xs
+each_all f [] = refl
+each_all f (x ∷ xs) = rw (each_all f xs)
 
 -- the ith element is not reached by the first i
 each_ahead : {A : Type 0} (f : A → A) (d : A) (i : ℕ) (xs : List A) → get_or (each f i xs) i d ≡ get_or xs i d
@@ -105,13 +117,13 @@ replies_turn f d zero (h ∷ hs) p = append-nil _
 replies_turn f d (suc i) (h ∷ hs) p = rw (replies_turn f d i hs (le_of_suc-le-suc p), append_assoc)
 
 -- no reply where no head gives one, and one where just head k does
-pub none_reply : (b at : ℕ) (d : Head) (n : ℕ) (hs : List Head) → ((j : ℕ) → j < n → (step_of (get_or hs j d) b at).replied ≡ false) → replies_of n hs b at ≡ []
+pub none_reply : (b at : ℕ) (d : Head) (n : ℕ) (hs : List Head) → ((j : ℕ) → j < n → is_some (step_of (get_or hs j d) b at).reply ≡ false) → replies_of n hs b at ≡ []
 none_reply b at d zero hs q = refl
 none_reply b at d (suc n) [] q = refl
 none_reply b at d (suc n) (h ∷ hs) q = rw (q 0 (omega arith)) (none_reply b at d n hs (λ j p. q (suc j) (omega arith)))
 
-pub one_replies : (b at : ℕ) (d : Head) (k n : ℕ) (hs : List Head) → k < n → k < length hs → (step_of (get_or hs k d) b at).replied ≡ true
-    → ((j : ℕ) → j < n → j ≢ k → (step_of (get_or hs j d) b at).replied ≡ false) → replies_of n hs b at ≡ (step_of (get_or hs k d) b at).reply ∷ []
+pub one_replies : (b at : ℕ) (d : Head) (k n : ℕ) (hs : List Head) → k < n → k < length hs → is_some (step_of (get_or hs k d) b at).reply ≡ true
+    → ((j : ℕ) → j < n → j ≢ k → is_some (step_of (get_or hs j d) b at).reply ≡ false) → replies_of n hs b at ≡ ten_in (step_of (get_or hs k d) b at).reply ∷ []
 one_replies b at d k zero hs p q y z = absurd (not-suc-le-zero p)
 one_replies b at d k (suc n) [] p q y z = absurd (not-suc-le-zero q)
 one_replies b at d zero (suc n) (h ∷ hs) p q y z = rw (y, none_reply b at d n hs (λ j i. z (suc j) (omega arith) (λ e. omega arith)))
@@ -119,56 +131,56 @@ one_replies b at d (suc k) (suc n) (h ∷ hs) p q y z =
     rw (z 0 (omega arith) (λ e. omega arith))
     (one_replies b at d k n hs (le_of_suc-le-suc p) (le_of_suc-le-suc q) y (λ j i ne. z (suc j) (omega arith) (λ e. ne (omega arith))))
 
-abbrev pub last_or : List ℕ → List (List ℕ) → List ℕ
-last_or d [] = d
-last_or d (r ∷ rs) = last_or r rs
-
 last_snoc : (d r : List ℕ) (rs : List (List ℕ)) → last_or d (rs ++ (r ∷ [])) ≡ r
 last_snoc d r [] = refl
 last_snoc d r (q ∷ rs) = last_snoc q r rs
 
--- replies counted one at a time are so many, and the last is the last
-abbrev pub tally : List (List ℕ) → Replies
-tally rs = record { count = length rs; last = last_or (replicate 10 0) rs }
+-- of the first n of the first n heads, they are those of the first n heads
+pub replies_first : (f : Head → Stepped) (n : ℕ) (hs : List Head) → replies_by f (length (take n hs)) (take n hs) ≡ replies_by f n hs
+replies_first f zero hs = refl
+replies_first f (suc n) [] = refl
+replies_first f (suc n) (h ∷ hs) = rw (replies_first f n hs)
 
-tally_more : (rs : List (List ℕ)) (replied : Bool) (reply : List ℕ)
-    → counted (tally rs) replied reply ≡ tally (rs ++ cond replied (reply ∷ []) [])
-tally_more rs true reply = rw (length-append, last_snoc)
-tally_more rs false reply = rw append-nil
+-- one head more
+tally_more : (rs : List (List ℕ)) (s : Option (List ℕ)) → counted (tally rs) s ≡ tally (rs ++ cond (is_some s) (ten_in s ∷ []) [])
+tally_more rs (Some ten) = rw (length-append, last_snoc)
+tally_more rs None = rw append-nil
 
--- a line k whose first i heads have done f, as those of l do, with their replies
-pub record Heard (f : Head → Stepped) (l : Line) (i : ℕ) (k : Line) (r : Replies) : Type 0 where
-  pub heads : k.heads ≡ each (λ h. (f h).head) i l.heads
-  pub count : k.count ≡ l.count
-  pub replies : r ≡ tally (replies_by f i l.heads)
+-- heads of which the first i have done f, with their replies
+pub record Heard (f : Head → Stepped) (hs : List Head) (i : ℕ) (ks : List Head) (r : Replies) : Type 0 where
+  pub heads : ks ≡ each (λ h. (f h).head) i hs
+  pub replies : r ≡ tally (replies_by f i hs)
 
--- before the first turn, and a turn of the loop over the heads
-pub unheard : (f : Head → Stepped) (l : Line) {r : Replies} → r ≡ no_reply → Heard f l 0 l r
-unheard f l e = record { heads = refl; count = refl; replies = e }
+-- before the first turn, a turn of the loop over the heads, and after the last
+pub unheard : (f : Head → Stepped) (hs : List Head) {r : Replies} → r ≡ no_reply → Heard f hs 0 hs r
+unheard f hs e = record { heads = refl; replies = e }
 
-module _ (f : Head → Stepped) (l : Line) (i : ℕ) (k : Line) (r : Replies) (t : Heard f l i k r) (p : i < length l.heads) (d : Head) where
-  pub heard_turn : (s : Stepped) → s ≡ f (get_or k.heads i d) → (n : Line) → n ≡ record { heads = set k.heads i s.head; count = k.count }
-      → (q : Replies) → q ≡ counted r s.replied s.reply → Heard f l (i + 1) n q
-  heard_turn s e n en q eq =
-      let same : s ≡ f (get_or l.heads i d) = e ∙ rw (t.heads, each_ahead) in
-      let hs : set k.heads i s.head ≡ each (λ h. (f h).head) (i + 1) l.heads = rw (t.heads, same, add-one i, each_turn (λ h. (f h).head) d i l.heads) in
-      let rs : counted r s.replied s.reply ≡ tally (replies_by f (i + 1) l.heads) =
-      rw (t.replies, same, add-one i, replies_turn f d i l.heads p)
-      (tally_more (replies_by f i l.heads) (f (get_or l.heads i d)).replied (f (get_or l.heads i d)).reply) in
-      record { heads = ap (λ (m : Line). m.heads) en ∙ hs; count = ap (λ (m : Line). m.count) en ∙ t.count; replies = eq ∙ rs }
+module _ {f : Head → Stepped} {hs : List Head} {i : ℕ} {ks : List Head} {r : Replies} (t : Heard f hs i ks r) where
+  pub heard_turn : i < length hs → (d : Head) (s : Stepped) → s ≡ f (get_or ks i d) → (q : Replies) → q ≡ counted r s.reply
+      → Heard f hs (i + 1) (set ks i s.head) q
+  heard_turn p d s e q eq =
+      let same : s ≡ f (get_or hs i d) = e ∙ rw (t.heads, each_ahead) in
+      record {
+        heads = rw (t.heads, same, add-one i, each_turn (λ h. (f h).head) d i hs);
+        replies = eq ∙ rw (t.replies, same, add-one i, replies_turn f d i hs p) (tally_more (replies_by f i hs) (f (get_or hs i d)).reply);
+      }
+
+  pub heard_all : length hs ≤ i → i ≤ length hs → (r ≡ tally (replies_by f (length hs) hs)) × (ks ≡ map (λ h. (f h).head) hs)
+  heard_all p q =
+      let e : i ≡ length hs = omega arith in (t.replies ∙ rw e, t.heads ∙ rw e (each_all (λ h. (f h).head) hs))
 
 -- no head replies twice
 few : (f : Head → Stepped) (n : ℕ) (hs : List Head) → length (replies_by f n hs) ≤ n
 few f zero hs = omega arith
 few f (suc n) [] = omega arith
-few f (suc n) (h ∷ hs) = rw (length-append (said_by (f h))) (omega (arith, few f n hs, said_one (f h).replied))
+few f (suc n) (h ∷ hs) = rw (length-append (said_by (f h))) (omega (arith, few f n hs, said_one (f h).reply))
   where
-    said_one : (x : Bool) → length (cond x ((f h).reply ∷ []) []) ≤ 1
-    said_one true = omega arith
-    said_one false = omega arith
+    said_one : (s : Option (List ℕ)) → length (cond (is_some s) (ten_in s ∷ []) []) ≤ 1
+    said_one (Some ten) = omega arith
+    said_one None = omega arith
 
-pub heard_few : {f : Head → Stepped} {l : Line} {i : ℕ} {k : Line} {r : Replies} → Heard f l i k r → r.count ≤ i
-heard_few {f} {l} {i} t = rw t.replies (few f i l.heads)
+pub heard_few : {f : Head → Stepped} {hs : List Head} {i : ℕ} {ks : List Head} {r : Replies} → Heard f hs i ks r → r.count ≤ i
+heard_few {f} {hs} {i} t = rw t.replies (few f i hs)
 
 -- a line that passes the test has at most 32 heads, which all pass theirs, and their serial numbers differ
 module _ (b : Bool) (l : Line) where

@@ -1,5 +1,6 @@
 -- Laws of a stretch of bytes: a turn of the loop over them, one byte is a byte call, and a stretch is its byte calls one after another.
 -- Assumes nothing.
+use Rattle.std.specs.Prelude.{Ok, Err, Result}
 use Prim.Native.Nat.{ℕ, suc, ◌+◌, ◌<◌, ◌≤◌, suc-le-suc}
 use mathlib.Core.Path.{◌≡◌, refl, sym, ap, ◌∙◌}
 use mathlib.Core.Bool.{Bool, true, false, cond}
@@ -10,20 +11,16 @@ use borrow.Author.Tests.{le-ltb, ltb-false, eq-eqb, ne_eqb, eqb-true, eqb-false}
 use lib.Dec.{eqb, ltb}
 use lib.ListN.{length, get_or, take, drop}
 use lib.Seq.{drop-cons}
-use Rattle.state.specs.declared.parts.Head.{Head}
 use Rattle.head.specs.declared.refusal.Refusal.{Refusal}
 use Rattle.head.specs.declared.refusal.Refusal.TheVariants.{Space, Malformed}
-use Rattle.head.specs.declared.calls.Heard as said
-use Rattle.head.specs.declared.calls.Heard.TheVariants as heard
-use Rattle.head.specs.Hear.{step_of}
 use Rattle.line.specs.declared.round.Replies.{Replies}
 use Rattle.line.specs.declared.calls.Line.{Line}
 use Rattle.line.specs.declared.calls.Fed.{Fed}
 use Rattle.line.specs.declared.calls.Stretch.{Stretch}
-use Rattle.line.specs.Round.{stepped_by, no_reply, laid_for}
+use Rattle.line.specs.Round.{stepped_by, no_reply, tally, laid_for}
 use Rattle.line.specs.Calls.{unfed, fits_of, replies_at, heard_by, laid_by_of, byte_of, byte_space_of}
 use Rattle.line.specs.Stretch.{unheard_at, stopped_at, heard_until, laid_until, until_of, until_space_of}
-use Rattle.line.proofs.Laws.{each_length, tally, laid_tally, Heard}
+use Rattle.line.proofs.Laws.{each_length, laid_tally}
 use Rattle.line.proofs.Theorems.{byte_counts, byte_lays, byte_keeps}
 
 -- ---- the loop over the bytes: the answer from the start is the one from here, which is that of the bytes left where no reply came yet
@@ -45,35 +42,28 @@ pub going_start : (at : ℕ) (l : Line) (bs : List ℕ) (from : ℕ) {r : Replie
 going_start at l bs from e =
     record { said = rw e; laid = λ s. rw e; none = λ z. e; count = refl; places = refl }
 
--- a line of which every head has heard a byte
-same_line : {hs is : List Head} {m n : ℕ} → hs ≡ is → m ≡ n → ◌≡◌ {A = Line} (record { heads = hs; count = m }) (record { heads = is; count = n })
-same_line e f = rw (e, f)
-
 tally_none : (rs : List (List ℕ)) → length rs ≡ 0 → tally rs ≡ no_reply
 tally_none [] z = refl
 tally_none (r ∷ rs) z = absurd (omega arith)
 
-module _ (b at : ℕ) {k n : Line} {q : Replies} (t : Heard (λ h. step_of h b at) k k.count n q) where
-  heard_line : n ≡ heard_by k b at
-  heard_line = same_line t.heads t.count
-
-  -- a byte more
-  pub going_on : {l : Line} {bs : List ℕ} {from : ℕ} {left : List ℕ} {j : ℕ} {r : Replies} → Going at l bs from k (b ∷ left) j r → r.count ≡ 0
-      → Going at l bs from n left (j + 1) q
-  unfolding heard_until laid_until
-  going_on g z = record {
-    said = g.said ∙ rw (eq-eqb _ _ z, t.replies, heard_line);
-    laid = λ s. g.laid s ∙ rw (eq-eqb _ _ z, t.replies, heard_line, laid_tally (replies_at k b at) s);
-    none = λ y. t.replies ∙ tally_none (replies_at k b at) (sym (ap (λ (x : Replies). x.count) t.replies) ∙ y);
-    count = t.count ∙ g.count;
-    places = ap (λ (x : Line). length x.heads) heard_line ∙ each_length (stepped_by b at) k.count k.heads ∙ g.places;
-  }
+-- a byte more, which every head of the line has heard
+going_on : (b at : ℕ) {l : Line} {bs : List ℕ} {from : ℕ} {k : Line} {left : List ℕ} {j : ℕ} {r : Replies} → Going at l bs from k (b ∷ left) j r → r.count ≡ 0
+    → {n : Line} {q : Replies} → n ≡ heard_by k b at → q ≡ tally (replies_at k b at) → Going at l bs from n left (j + 1) q
+unfolding heard_until laid_until
+going_on b at {k = k} g z heard replies = record {
+  said = g.said ∙ rw (eq-eqb _ _ z, replies, heard);
+  laid = λ s. g.laid s ∙ rw (eq-eqb _ _ z, replies, heard, laid_tally (replies_at k b at) s);
+  none = λ y. replies ∙ tally_none (replies_at k b at) (sym (ap (λ (x : Replies). x.count) replies) ∙ y);
+  count = ap (λ (x : Line). x.count) heard ∙ g.count;
+  places = ap (λ (x : Line). length x.heads) heard ∙ each_length (stepped_by b at) k.count k.heads ∙ g.places;
+}
 
 -- the byte at a place of all bytes
-pub going_next : {at : ℕ} {l : Line} {bs : List ℕ} {from : ℕ} {k : Line} (bytes : List ℕ) {j : ℕ} {r : Replies} {n : Line} {q : Replies}
-    → Going at l bs from k (drop j bytes) j r → j < length bytes → r.count ≡ 0 → Heard (λ h. step_of h (get_or bytes j 0) at) k k.count n q
+pub going_next : {at : ℕ} {l : Line} {bs : List ℕ} {from : ℕ} {k : Line} (bytes : List ℕ) {j : ℕ} {r : Replies} → Going at l bs from k (drop j bytes) j r
+    → j < length bytes → r.count ≡ 0
+    → {n : Line} {q : Replies} → n ≡ heard_by k (get_or bytes j 0) at → q ≡ tally (replies_at k (get_or bytes j 0) at)
     → Going at l bs from n (drop (j + 1) bytes) (j + 1) q
-going_next {at} bytes {j} g p z t = going_on (get_or bytes j 0) at t (rw (drop-cons bytes j 0 p, ← add-one j) at g) z
+going_next {at} bytes {j} g p z heard replies = going_on (get_or bytes j 0) at (rw (drop-cons bytes j 0 p, ← add-one j) at g) z heard replies
 
 -- after the last: no byte is left, or a reply came
 module _ {at : ℕ} {l : Line} {bs : List ℕ} {from : ℕ} {k : Line} {left : List ℕ} {j : ℕ} {r : Replies} (g : Going at l bs from k left j r) where
@@ -132,7 +122,7 @@ laid_none : (rs : List (List ℕ)) → length rs ≡ 0 → (s : List ℕ) → la
 laid_none [] z s = refl
 laid_none (r ∷ rs) z s = absurd (omega arith)
 
-replies_same : {m n : ℕ} → ◌≡◌ {A = said.Heard} (heard.Replies m) (heard.Replies n) → m ≡ n
+replies_same : {m n : ℕ} → ◌≡◌ {A = Result ℕ Refusal} (Ok m) (Ok n) → m ≡ n
 replies_same e = cc
 
 -- ---- a stretch by its first byte, where that is not refused: the line takes it, with these replies
@@ -142,13 +132,13 @@ module _ (l : Line) (b at : ℕ) (space : List ℕ) where
     lent : 10 ≤ length space
     replies : length (replies_at l b at) ≡ n
 
-  takes : {n : ℕ} → (byte_of l b at (length space)).heard ≡ heard.Replies n → Takes n
+  takes : {n : ℕ} → (byte_of l b at (length space)).heard ≡ Ok n → Takes n
   unfolding byte_of
   takes {n} = go (fits_of l) (ltb (length space) 10) refl refl
     where
       go : (x y : Bool) → fits_of l ≡ x → ltb (length space) 10 ≡ y
-          → (cond x (cond y (unfed l Space) (record { line = heard_by l b at; heard = heard.Replies (length (replies_at l b at)) })) (unfed l Malformed)).heard
-          ≡ heard.Replies n
+          → (cond x (cond y (unfed l Space) (record { line = heard_by l b at; heard = Ok (length (replies_at l b at)) })) (unfed l Malformed)).heard
+          ≡ Ok n
           → Takes n
       go true true e f h = let z : ◌≡◌ {A = ℕ} 0 1 = cc in absurd (omega arith)
       go true false e f h = record { fits = e; lent = ltb-false _ _ f; replies = replies_same h }
@@ -164,7 +154,7 @@ module _ (l : Line) (b at : ℕ) (space : List ℕ) where
 
   module _ (bs : List ℕ) (from : ℕ) where
     pub until_silent : let k = byte_of l b at (length space) in
-        k.heard ≡ heard.Replies 0
+        k.heard ≡ Ok 0
         → (until_of l (b ∷ bs) from at (length space) ≡ until_of k.line bs (from + 1) at (length space))
         × (until_space_of l (b ∷ bs) at space ≡ until_space_of k.line bs at (byte_space_of l b at space))
     unfolding until_of until_space_of heard_until laid_until
@@ -179,7 +169,7 @@ module _ (l : Line) (b at : ℕ) (space : List ℕ) where
 
     pub until_last : {n : ℕ}
         → let k = byte_of l b at (length space) in
-        k.heard ≡ heard.Replies (suc n)
+        k.heard ≡ Ok (suc n)
         → (until_of l (b ∷ bs) from at (length space) ≡ record { line = k.line; heard = k.heard; next = from + 1 })
         × (until_space_of l (b ∷ bs) at space ≡ byte_space_of l b at space)
     unfolding until_of until_space_of heard_until laid_until
@@ -227,18 +217,18 @@ module _ (at : ℕ) (space : List ℕ) (r : 10 ≤ length space) where
       go g false = record { count = 1; within = omega arith; some = λ p. omega arith; next = refl; line = called [] }
 
 -- bytes that are heard are answered with a number, and so not refused
-pub heard_counts : (at : ℕ) (l : Line) (bs : List ℕ) (j : ℕ) → (n : ℕ) × ((heard_until l bs j at).heard ≡ heard.Replies n)
+pub heard_counts : (at : ℕ) (l : Line) (bs : List ℕ) (j : ℕ) → (n : ℕ) × ((heard_until l bs j at).heard ≡ Ok n)
 unfolding heard_until
 heard_counts at l [] j = (0, refl)
 heard_counts at l (b ∷ bs) j = go (heard_until (heard_by l b at) bs (j + 1) at) (eqb (length (replies_at l b at)) 0) (heard_counts at (heard_by l b at) bs (j + 1))
   where
-    go : (s : Stretch) (x : Bool) → (n : ℕ) × (s.heard ≡ heard.Replies n)
-        → (n : ℕ) × ((cond x s (stopped_at (heard_by l b at) (length (replies_at l b at)) (j + 1))).heard ≡ heard.Replies n)
+    go : (s : Stretch) (x : Bool) → (n : ℕ) × (s.heard ≡ Ok n)
+        → (n : ℕ) × ((cond x s (stopped_at (heard_by l b at) (length (replies_at l b at)) (j + 1))).heard ≡ Ok n)
     go s true h = h
     go s false h = (length (replies_at l b at), refl)
 
-never : {why : Refusal} (at : ℕ) (l : Line) (bs : List ℕ) (j : ℕ) → (heard_until l bs j at).heard ≡ heard.Refused why → ⊥
-never {why} at l bs j e = let k = heard_counts at l bs j in let f : heard.Replies k.0 ≡ heard.Refused why = sym k.1 ∙ e in let z : ◌≡◌ {A = ℕ} 0 1 = cc in omega arith
+never : {why : Refusal} (at : ℕ) (l : Line) (bs : List ℕ) (j : ℕ) → (heard_until l bs j at).heard ≡ Err why → ⊥
+never {why} at l bs j e = let k = heard_counts at l bs j in let f : Ok k.0 ≡ Err why = sym k.1 ∙ e in let z : ◌≡◌ {A = ℕ} 0 1 = cc in omega arith
 
 -- byte calls that leave the line as it is, however many
 stays : (l : Line) (at room : ℕ) → ((b : ℕ) → (byte_of l b at room).line ≡ l) → (cs : List ℕ) → fed_all l cs at room ≡ l
@@ -247,25 +237,25 @@ stays l at room h (c ∷ cs) = ap (λ (k : Line). fed_all k cs at room) (h c) �
 
 module _ (l : Line) (bs : List ℕ) (j at : ℕ) (space : List ℕ) where
   -- a stretch that is not refused is as above
-  pub until_stretched : {n : ℕ} → (until_of l bs j at (length space)).heard ≡ heard.Replies n → Stretched l bs j at (length space) (until_of l bs j at (length space))
+  pub until_stretched : {n : ℕ} → (until_of l bs j at (length space)).heard ≡ Ok n → Stretched l bs j at (length space) (until_of l bs j at (length space))
   unfolding until_of
   until_stretched {n} = go (fits_of l) (ltb (length space) 10) refl refl
     where
       go : (x y : Bool) → fits_of l ≡ x → ltb (length space) 10 ≡ y
-          → (cond x (cond y (unheard_at l j Space) (heard_until l bs j at)) (unheard_at l j Malformed)).heard ≡ heard.Replies n
+          → (cond x (cond y (unheard_at l j Space) (heard_until l bs j at)) (unheard_at l j Malformed)).heard ≡ Ok n
           → Stretched l bs j at (length space) (cond x (cond y (unheard_at l j Space) (heard_until l bs j at)) (unheard_at l j Malformed))
       go true true e f h = let z : ◌≡◌ {A = ℕ} 0 1 = cc in absurd (omega arith)
       go true false e f h = stretched at space (ltb-false _ _ f) l e bs j
       go false y e f h = let z : ◌≡◌ {A = ℕ} 0 1 = cc in absurd (omega arith)
 
   -- one that is refused stands for all bytes that there are: each is refused for the same reason, and the line stays
-  pub until_refused : {why : Refusal} → (until_of l bs j at (length space)).heard ≡ heard.Refused why
+  pub until_refused : {why : Refusal} → (until_of l bs j at (length space)).heard ≡ Err why
       → ((until_of l bs j at (length space)).line ≡ l) × ((cs : List ℕ) → fed_all l cs at (length space) ≡ l)
   unfolding until_of byte_of
   until_refused {why} = go (fits_of l) (ltb (length space) 10) refl refl
     where
       go : (x y : Bool) → fits_of l ≡ x → ltb (length space) 10 ≡ y
-          → (cond x (cond y (unheard_at l j Space) (heard_until l bs j at)) (unheard_at l j Malformed)).heard ≡ heard.Refused why
+          → (cond x (cond y (unheard_at l j Space) (heard_until l bs j at)) (unheard_at l j Malformed)).heard ≡ Err why
           → ((cond x (cond y (unheard_at l j Space) (heard_until l bs j at)) (unheard_at l j Malformed)).line ≡ l)
           × ((cs : List ℕ) → fed_all l cs at (length space) ≡ l)
       go true true e f h = (refl, stays l at (length space) (λ b. rw (e, f)))

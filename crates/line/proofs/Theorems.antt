@@ -1,6 +1,7 @@
 -- What the calls on a line promise: a refused call changes nothing and says why, a call that names a head changes that head alone, a byte
 -- and a tick do to each head what they do to it alone, and a line that fits stays one and keeps its serial numbers.
 -- Assumes nothing.
+use Rattle.std.specs.Prelude.{Err, Ok}
 use Prim.Native.Nat.{ℕ, ◌+◌, ◌<◌, ◌≤◌}
 use mathlib.Core.Path.{◌≡◌, refl, ◌∙◌, ap}
 use mathlib.Core.Logic.{◌≢◌}
@@ -19,10 +20,8 @@ use Rattle.effects.specs.Stored.{restarted_stored}
 use Rattle.effects.specs.Restart.{restarted_of, fresh_of}
 use Rattle.head.specs.declared.refusal.Refusal.{Refusal}
 use Rattle.head.specs.declared.refusal.Refusal.TheVariants.{Space, Malformed}
-use Rattle.head.specs.declared.calls.Answer.TheVariants as answer
 use Rattle.head.specs.declared.calls.Called as alone
 use Rattle.head.specs.declared.calls.Fed as lent
-use Rattle.head.specs.declared.calls.Heard.TheVariants as heard
 use Rattle.head.specs.Hear.{step_of}
 use Rattle.head.specs.Moves.{ticked_of}
 use Rattle.head.specs.Calls as head
@@ -64,7 +63,7 @@ module _ (l : Line) where
 
   pub byte_when : (b at room : ℕ)
       → byte_of l b at room
-      ≡ guarded (unfed l) (byte_tests l room) (record { line = heard_by l b at; heard = heard.Replies (length (replies_at l b at)) })
+      ≡ guarded (unfed l) (byte_tests l room) (record { line = heard_by l b at; heard = Ok (length (replies_at l b at)) })
   unfolding byte_of
   byte_when b at room = rw (flip (ltb room 10))
 
@@ -94,7 +93,7 @@ module _ (l : Line) where
 
 -- ---- a refused call leaves the line as it was
 abbrev pub Untouched : Line → Called → Type 0
-Untouched l c = (why : Refusal) → c.answer ≡ answer.Refused why → c.line ≡ l
+Untouched l c = (why : Refusal) → c.answer ≡ Err why → c.line ≡ l
 
 module _ (l : Line) where
   untouched : (ts : Tests) (k : Line) → Untouched l (guarded (refused_with l) ts (done_with k))
@@ -108,7 +107,7 @@ module _ (l : Line) where
   tick_refused at = rw (tick_when l at) (untouched (tick_tests l) _)
 
   -- where the call on the head alone leaves a refused head as it was
-  pub named_refused : (b : Bool) (i : ℕ) (c : alone.Called) → ((why : Refusal) → c.answer ≡ answer.Refused why → c.head ≡ head_at l i)
+  pub named_refused : (b : Bool) (i : ℕ) (c : alone.Called) → ((why : Refusal) → c.answer ≡ Err why → c.head ≡ head_at l i)
       → Untouched l (named_of b l i c)
   unfolding placed_of
   named_refused b i c k =
@@ -117,37 +116,37 @@ module _ (l : Line) where
       (λ h why e. rw (k why e, set_back (factory_of 0) i l.heads)))
 
   -- a refused key state too
-  pub keys_refused : (i s room : ℕ) (why : Refusal) → (keys_of l i s room).heard ≡ heard.Refused why → (keys_of l i s room).line ≡ l
+  pub keys_refused : (i s room : ℕ) (why : Refusal) → (keys_of l i s room).heard ≡ Err why → (keys_of l i s room).line ≡ l
   unfolding keys_of placed_of
   keys_refused i s room why = go (named_tests l i)
     where
       f : lent.Fed
       f = head.keys_of (head_at l i) s room
 
-      go : (ts : Tests) → (guarded (unfed l) ts (put_back_fed l i f)).heard ≡ heard.Refused why → (guarded (unfed l) ts (put_back_fed l i f)).line ≡ l
+      go : (ts : Tests) → (guarded (unfed l) ts (put_back_fed l i f)).heard ≡ Err why → (guarded (unfed l) ts (put_back_fed l i f)).line ≡ l
       go [] e = rw (lent_keys_same (head_at l i) s room (ap of_heard e), set_back (factory_of 0) i l.heads)
       go ((true, w) ∷ ts) e = go ts e
       go ((false, w) ∷ ts) e = refl
 
   -- and the space with it
-  pub keys_spared : (i s : ℕ) (space : List ℕ) (why : Refusal) → (keys_of l i s (length space)).heard ≡ heard.Refused why → keys_space_of l i s space ≡ space
+  pub keys_spared : (i s : ℕ) (space : List ℕ) (why : Refusal) → (keys_of l i s (length space)).heard ≡ Err why → keys_space_of l i s space ≡ space
   unfolding keys_of keys_space_of
   keys_spared i s space why = go (named_tests l i)
     where
-      go : (ts : Tests) → (guarded (unfed l) ts (put_back_fed l i (head.keys_of (head_at l i) s (length space)))).heard ≡ heard.Refused why
+      go : (ts : Tests) → (guarded (unfed l) ts (put_back_fed l i (head.keys_of (head_at l i) s (length space)))).heard ≡ Err why
           → guarded (λ w. space) ts (head.keys_space_of (head_at l i) s space) ≡ space
       go [] e = (refused_nothing (keys s space) (head_at l i) (ap of_heard e)).space
       go ((true, w) ∷ ts) e = go ts e
       go ((false, w) ∷ ts) e = refl
 
   -- and a refused byte both
-  pub byte_refused : (b at : ℕ) (space : List ℕ) (why : Refusal) → (byte_of l b at (length space)).heard ≡ heard.Refused why
+  pub byte_refused : (b at : ℕ) (space : List ℕ) (why : Refusal) → (byte_of l b at (length space)).heard ≡ Err why
       → ((byte_of l b at (length space)).line ≡ l) × (byte_space_of l b at space ≡ space)
   byte_refused b at space why =
       rw (byte_when l b at (length space), space_when l b at space) (go (heard_by l b at) _ _ (byte_tests l (length space))) where
         go : (k : Line) (n : ℕ) (laid : List ℕ) (ts : Tests)
-            → (guarded (unfed l) ts (record { line = k; heard = heard.Replies n })).heard ≡ heard.Refused why
-            → ((guarded (unfed l) ts (record { line = k; heard = heard.Replies n })).line ≡ l) × (guarded (λ w. space) ts laid ≡ space)
+            → (guarded (unfed l) ts (record { line = k; heard = Ok n })).heard ≡ Err why
+            → ((guarded (unfed l) ts (record { line = k; heard = Ok n })).line ≡ l) × (guarded (λ w. space) ts laid ≡ space)
         go k n laid [] e = let z : ◌≡◌ {A = ℕ} 0 1 = cc in absurd (omega arith)
         go k n laid ((true, w) ∷ ts) e = go k n laid ts e
         go k n laid ((false, w) ∷ ts) e = (refl, refl)
@@ -215,7 +214,7 @@ byte_past l b at room k p =
 
 -- the answer counts the replies that the heads give, and the space takes the one that is alone
 module _ (l : Line) (f : fits_of l ≡ true) (b at : ℕ) (space : List ℕ) (r : 10 ≤ length space) where
-  pub byte_counts : (byte_of l b at (length space)).heard ≡ heard.Replies (length (replies_at l b at))
+  pub byte_counts : (byte_of l b at (length space)).heard ≡ Ok (length (replies_at l b at))
   unfolding byte_of
   byte_counts = rw (f, le-ltb _ _ r)
 

@@ -1,21 +1,14 @@
 -- The calls on a line and their refusals (document 01, "The line, and calls refused"; keys, sheets, serial numbers and older heads: document
 -- 02, requests (ii), (vii), (xi) and (xii)).
 -- Assumes nothing.
-use Rattle.std.specs.Prelude.{ℕ, ◌+◌, Bool, true, false, cond, not, ◌&&◌, List, [], ◌∷◌, leb, ltb, ℤ, length, get_or, set, replicate}
+use Rattle.std.specs.Prelude.{ℕ, ◌+◌, Bool, true, false, cond, not, ◌&&◌, List, [], ◌∷◌, leb, ltb, ℤ, length, get_or, set, replicate, Ok, Err, Result, ⊤}
 use Rattle.rows.specs.Among.{among}
 use Rattle.state.specs.declared.parts.Head.{Head}
 use Rattle.effects.specs.Restart.{fresh_of}
 use Rattle.head.specs.declared.refusal.Refusal.{Refusal}
 use Rattle.head.specs.declared.refusal.Refusal.TheVariants.{Node, Full, NoHead, Space, Malformed, SerialTaken}
-use Rattle.head.specs.declared.calls.Answer.{Answer}
-use Rattle.head.specs.declared.calls.Answer.TheVariants as answer
-use Rattle.head.specs.declared.calls.Heard.TheVariants as heard
 use Rattle.head.specs.declared.calls.Called as alone
 use Rattle.head.specs.declared.calls.Fed as lent
-use Rattle.head.specs.declared.calls.Hit.{Hit}
-use Rattle.head.specs.declared.calls.Hit.TheVariants as hit
-use Rattle.head.specs.declared.calls.Serial.{Serial}
-use Rattle.head.specs.declared.calls.Serial.TheVariants as serial
 use Rattle.head.specs.Calls as head
 use Rattle.head.specs.Calls.{Tests, guarded, factory_of, node_fits, laid_on_of}
 use Rattle.line.specs.declared.calls.Line.{Line}
@@ -26,13 +19,13 @@ use Rattle.line.specs.Round.{each, all_pass_of, stepped_by, ticked_at, replies_o
 
 -- a call that was done, and one that was refused: the line is as it was
 abbrev pub done_with : Line → Called
-done_with l = record { line = l; answer = answer.Done }
+done_with l = record { line = l; answer = Ok tt }
 
 abbrev pub refused_with : Line → Refusal → Called
-refused_with l why = record { line = l; answer = answer.Refused why }
+refused_with l why = record { line = l; answer = Err why }
 
 abbrev pub unfed : Line → Refusal → Fed
-unfed l why = record { line = l; heard = heard.Refused why }
+unfed l why = record { line = l; heard = Err why }
 
 -- a line with no head; what stands in a place past the count does not matter
 unfoldable pub empty_of : Line
@@ -79,7 +72,7 @@ unfoldable pub byte_of : Line → ℕ → ℕ → ℕ → Fed
 byte_of l b at room =
     cond (fits_of l)
     (cond (ltb room 10) (unfed l Space)
-    (record { line = heard_by l b at; heard = heard.Replies (length (replies_at l b at)) }))
+    (record { line = heard_by l b at; heard = Ok (length (replies_at l b at)) }))
     (unfed l Malformed)
 
 -- exactly one reply stands in the first ten bytes and the rest is unchanged; otherwise no byte changes
@@ -132,20 +125,20 @@ unfoldable pub bring_of : Line → ℕ → Called
 bring_of l i = named_of true l i (head.bring_of (head_at l i))
 
 -- the last non-zero exclusive-or of one head: it names the head too, and hands back no line
-unfoldable pub last_hit_of : Line → ℕ → Hit
-last_hit_of l i = guarded hit.Refused (named_tests l i) (head.last_hit_of (head_at l i))
+unfoldable pub last_hit_of : Line → ℕ → Result ℕ Refusal
+last_hit_of l i = guarded Err (named_tests l i) (head.last_hit_of (head_at l i))
 
 -- the serial number of one head: so does this
-unfoldable pub serial_number_of : Line → ℕ → Serial
-serial_number_of l i = guarded serial.Refused (named_tests l i) (head.serial_number_of (head_at l i))
+unfoldable pub serial_number_of : Line → ℕ → Result ℕ Refusal
+serial_number_of l i = guarded Err (named_tests l i) (head.serial_number_of (head_at l i))
 
 -- a sheet is loaded into one head
 unfoldable pub load_of : Line → ℕ → List ℕ → Called
 load_of l i s = named_of false l i (head.load_of (head_at l i) s)
 
 -- the settings of one head are written on a sheet: it hands back no line, and the space is as that head alone leaves it
-unfoldable pub save_of : Line → ℕ → ℕ → Answer
-save_of l i room = guarded answer.Refused (named_tests l i) (head.save_of (head_at l i) room)
+unfoldable pub save_of : Line → ℕ → ℕ → Result ⊤ Refusal
+save_of l i room = guarded Err (named_tests l i) (head.save_of (head_at l i) room)
 
 unfoldable pub save_space_of : Line → ℕ → List ℕ → List ℕ
 save_space_of l i space = guarded (λ why. space) (named_tests l i) (head.save_space_of (head_at l i) space)

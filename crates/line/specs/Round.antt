@@ -1,7 +1,8 @@
 -- What the heads of a line do with a byte and with a tick (document 01, "The line, and calls refused"): both reach every head, and each
 -- does what it does alone. Heads do not hear replies.
 -- Assumes nothing.
-use Rattle.std.specs.Prelude.{ℕ, zero, suc, ◌+◌, Bool, true, false, cond, ◌&&◌, List, [], ◌∷◌, ◌++◌, eqb, replicate}
+use Rattle.std.specs.Prelude.{ℕ, zero, suc, ◌+◌, Bool, true, false, cond, ◌&&◌, List, [], ◌∷◌, ◌++◌, eqb, length, replicate, Some, None, Option, is_some}
+use Rattle.wire.specs.Telegram.{ten_in}
 use Rattle.state.specs.declared.parts.Head.{Head}
 use Rattle.state.specs.Older.{passes_of}
 use Rattle.head.specs.declared.hear.Stepped.{Stepped}
@@ -35,7 +36,7 @@ ticked_at at h = ticked_of h at
 
 -- the reply of a step, if there is one
 abbrev pub said_by : Stepped → List (List ℕ)
-said_by s = cond s.replied (s.reply ∷ []) []
+said_by s = cond (is_some s.reply) (ten_in s.reply ∷ []) []
 
 -- the replies of the first n heads, in the heads' order, where f is what each does; and those to a byte
 abbrev pub replies_by : (Head → Stepped) → ℕ → List Head → List (List ℕ)
@@ -50,8 +51,17 @@ replies_of n hs b at = replies_by (λ h. step_of h b at) n hs
 abbrev pub no_reply : Replies
 no_reply = record { count = 0; last = replicate 10 0 }
 
-abbrev pub counted : Replies → Bool → List ℕ → Replies
-counted r replied reply = cond replied (record { count = r.count + 1; last = reply }) r
+abbrev pub counted : Replies → Option (List ℕ) → Replies
+counted r None = r
+counted r (Some ten) = record { count = r.count + 1; last = ten }
+
+-- and so counted they are so many, and the last is the last
+abbrev pub last_or : List ℕ → List (List ℕ) → List ℕ
+last_or d [] = d
+last_or d (r ∷ rs) = last_or r rs
+
+abbrev pub tally : List (List ℕ) → Replies
+tally rs = record { count = length rs; last = last_or (replicate 10 0) rs }
 
 -- just one reply is laid
 abbrev pub laid_for : Replies → List ℕ → List ℕ

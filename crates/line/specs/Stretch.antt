@@ -1,20 +1,19 @@
 -- Bytes that a line hears one after another until one of them draws a reply (document 01, "The line, and calls refused": a byte and its refusals).
 -- Assumes nothing.
-use Rattle.std.specs.Prelude.{ℕ, ◌+◌, cond, List, [], ◌∷◌, eqb, ltb, length}
+use Rattle.std.specs.Prelude.{ℕ, ◌+◌, cond, List, [], ◌∷◌, eqb, ltb, length, Ok, Err}
 use Rattle.head.specs.declared.refusal.Refusal.{Refusal}
 use Rattle.head.specs.declared.refusal.Refusal.TheVariants.{Space, Malformed}
-use Rattle.head.specs.declared.calls.Heard.TheVariants as heard
 use Rattle.line.specs.declared.calls.Line.{Line}
 use Rattle.line.specs.declared.calls.Stretch.{Stretch}
 use Rattle.line.specs.Calls.{fits_of, replies_at, heard_by, laid_by_of}
 
 -- a stretch that was refused: the line is as it was, and no byte was heard
 abbrev pub unheard_at : Line → ℕ → Refusal → Stretch
-unheard_at l from why = record { line = l; heard = heard.Refused why; next = from }
+unheard_at l from why = record { line = l; heard = Err why; next = from }
 
 -- a line where so many replies came last, and the place of the next byte
 abbrev pub stopped_at : Line → ℕ → ℕ → Stretch
-stopped_at l n next = record { line = l; heard = heard.Replies n; next = next }
+stopped_at l n next = record { line = l; heard = Ok n; next = next }
 
 -- the bytes from the place j on, heard by a line that refuses none: where none is left, nothing more came; a byte that no head replies to is
 -- followed by the next; one that draws a reply or several is the last

@@ -1,18 +1,20 @@
 // The calls on a line. 20 goes before all other refusals, 2 before 1 and 1 before 17, 3 before 4, 5, 6 and those of a sheet.
-ghost use Rattle.std.specs.Prelude.{◌≡◌, Bool, ◌≤◌, length, drop};
-ghost use Rattle.rows.specs.Among.{among};
-ghost use Rattle.line.specs.Calls.{empty_of, serials_at, fits_by, fits_of, done_with, refused_with, head_at, placed_of, grow_of, byte_of, byte_space_of, tick_of, named_of, measure_of, unfed, keys_of, keys_space_of, power_of, bring_of, last_hit_of, serial_number_of, load_of, save_of, save_space_of};
+ghost use Rattle.std.specs.Prelude.{◌≡◌, Bool, Ok, Err, length, drop, map, eqb};
+ghost use Rattle.std.specs.List.{list_any};
+ghost use Rattle.head.specs.Calls.{guarded};
+ghost use Rattle.line.specs.Calls.{empty_of, fits_by, fits_of, done_with, refused_with, head_at, placed_of, grow_of, byte_of, byte_space_of, tick_of, named_by, named_of, measure_of, unfed, keys_of, keys_space_of, power_of, bring_of, last_hit_of, serial_number_of, load_of, save_of, save_space_of};
+ghost use Rattle.line.specs.Round.{ticked_at};
 ghost use Rattle.line.specs.Stretch.{until_of, until_space_of};
 
+use crate::round::Replies;
 use crate::{round, serials};
 use effects::restart;
-use head::calls::{Answer, Heard, Hit, Serial};
 use head::refusal::Refusal;
-use head::{calls, hear, moves};
+use head::{calls, moves};
 use state::older;
 use state::parts::Head;
 
-// Places for 32 heads, of which the first `count` are on the wire.
+// Places for 32 heads in fixed memory, of which the first `count` are on the wire.
 #[repr(C)]
 #[derive(Clone, Copy)]
 pub struct Line {
@@ -20,18 +22,19 @@ pub struct Line {
     pub count: usize,
 }
 
+// What a call hands back is as a head's own, with the line in the head's place: the statements of demands name both, `c.head` and `c.line`.
 #[repr(C)]
 #[derive(Clone, Copy)]
 pub struct Called {
     pub line: Line,
-    pub answer: Answer,
+    pub answer: Result<(), Refusal>,
 }
 
 #[repr(C)]
 #[derive(Clone, Copy)]
 pub struct Fed {
     pub line: Line,
-    pub heard: Heard,
+    pub heard: Result<usize, Refusal>,
 }
 
 // The line after a stretch of bytes, what the last of them that was heard drew, and the place of the next.
@@ -39,7 +42,7 @@ pub struct Fed {
 #[derive(Clone, Copy)]
 pub struct Stretch {
     pub line: Line,
-    pub heard: Heard,
+    pub heard: Result<usize, Refusal>,
     pub next: usize,
 }
 
@@ -48,9 +51,8 @@ pub struct Stretch {
 pub fn empty() -> Line
     ensures { result ≡ empty_of }
 {
-    let h = calls::factory(0);
     Line {
-        heads: [h; 32],
+        heads: [calls::factory(0); 32],
         count: 0,
     }
 }
@@ -68,21 +70,16 @@ pub fn count(l: Line) -> usize
 fn fits_by(bringing: bool, l: Line) -> bool
     ensures { result ≡ fits_by bringing l }
 {
-    let n = l.count;
-    if n <= 32 {
-        let mut ok = true;
-        let mut serials = [0u32; 32];
-        let mut i: usize = 0;
-        while i < n {
-            let h = l.heads[i];
-            let s = h.stored;
-            ok = ok & older::passes(bringing, h) & !serials::stands(serials, i, s.serial);
-            serials[i] = s.serial;
-            i += 1;
-        }
-        return ok;
+    if 32 < l.count {
+        return false;
     }
-    false
+    let mut ok = true;
+    let mut serials = [0; 32];
+    for (i, h) in l.heads[..l.count].iter().enumerate() {
+        ok = ok & older::passes(bringing, *h) & !serials::stands(&serials[..i], h.stored.serial);
+        serials[i] = h.stored.serial;
+    }
+    ok
 }
 
 // Whether every call takes the line: each head is well-formed. The call that brings a head over takes one with older heads too.
@@ -97,7 +94,7 @@ fn done(l: Line) -> Called
 {
     Called {
         line: l,
-        answer: Answer::Done,
+        answer: Ok(()),
     }
 }
 
@@ -106,7 +103,7 @@ fn refused(l: Line, why: Refusal) -> Called
 {
     Called {
         line: l,
-        answer: Answer::Refused(why),
+        answer: Err(why),
     }
 }
 
@@ -114,10 +111,10 @@ fn refused(l: Line, why: Refusal) -> Called
 fn head_at(l: Line, i: usize) -> Head
     ensures { result ≡ head_at l i }
 {
-    if i < 32 {
-        return l.heads[i];
+    match l.heads.get(i) {
+        Some(h) => *h,
+        None => calls::factory(0),
     }
-    calls::factory(0)
 }
 
 // A head put at a place; at no place, nothing is put.
@@ -132,95 +129,68 @@ fn placed(l: Line, i: usize, h: Head) -> Line
     k
 }
 
-// Whether a head of the line has this serial number.
-fn on_line(l: Line, serial: u32) -> bool
-    requires { l.count ≤ 32 }
-    ensures { result ≡ among (serials_at l) serial }
+// Whether one of these heads has this serial number.
+fn is_taken(heads: &[Head], serial: u32) -> bool
+    ensures { result ≡ list_any (λ (h : Head). eqb h.stored.serial serial) heads.now }
 {
-    let n = l.count;
-    let mut found = false;
-    let mut i: usize = 0;
-    while i < n {
-        let h = l.heads[i];
-        let s = h.stored;
-        found = found | (serial == s.serial);
-        i += 1;
-    }
-    found
+    heads.iter().any(|h| h.stored.serial == serial)
 }
 
 // A line grown by a head with a node number and a serial number.
-#[tactic(auto, unfolding(crate::specs::Calls::placed_of, crate::specs::Calls::grow_of))]
+#[tactic(auto, unfolding(crate::specs::Calls::grow_of))]
 pub fn grow(l: Line, node: u32, serial: u32) -> Called
     ensures { result ≡ grow_of l node serial }
 {
-    if fits(l) {
-        let n = l.count;
-        if n < 32 {
-            if calls::node_fits(node) {
-                if on_line(l, serial) {
-                    return refused(l, Refusal::SerialTaken);
-                }
-                let mut k = placed(l, n, restart::fresh(node, serial));
-                k.count = n + 1;
-                return done(k);
-            }
-            return refused(l, Refusal::Node);
-        }
+    if !fits(l) {
+        return refused(l, Refusal::Malformed);
+    }
+    let n = l.count;
+    if 32 <= n {
         return refused(l, Refusal::Full);
     }
-    refused(l, Refusal::Malformed)
+    if !calls::node_fits(node) {
+        return refused(l, Refusal::Node);
+    }
+    if is_taken(&l.heads[..n], serial) {
+        return refused(l, Refusal::SerialTaken);
+    }
+    let mut k = l;
+    k.heads[n] = restart::fresh(node, serial);
+    k.count += 1;
+    done(k)
 }
 
 // Bytes for every head, from the place `from` on, all at one time and with lent reply space, until one draws a reply: the space holds the reply to
 // one byte, so whoever wants them all has to look at it before the next byte is heard. The tests for refusal are made once for all these bytes, and
-// the line is copied once, into `k`, and leaves by one exit; each arm of a turn reads and writes its head in place, so that a byte that ends no
-// telegram, as nine of ten do, writes the bytes gathered and nothing else.
+// the line leaves by one exit, for which its heads are copied once.
 #[tactic(auto, unfolding(crate::specs::Stretch::until_of, crate::specs::Stretch::until_space_of))]
 pub fn until_reply(l: Line, bytes: &[u8], from: usize, at: u32, space: &mut [u8]) -> Stretch
     ensures value { result ≡ until_of l (drop from bytes.now) from at (length space.old) }
     ensures space_after { space.new ≡ until_space_of l (drop from bytes.now) at space.old }
 {
-    let mut k = l;
-    let n = l.count;
-    let mut j = from;
-    let mut heard = Heard::Refused(Refusal::Malformed);
-    if fits(l) {
-        if space.len() < 10 {
-            heard = Heard::Refused(Refusal::Space);
-        } else {
-            let mut replies = round::none();
-            while j < bytes.len() && replies.count == 0 {
-                let b = bytes[j];
-                let mut i: usize = 0;
-                while i < n {
-                    let h = k.heads[i];
-                    let g = hear::gather(h.ear, b, at);
-                    if g.whole {
-                        let ten = g.ten;
-                        let s = hear::tell(k.heads[i], ten, at);
-                        let said = s.reply;
-                        replies = round::count(replies, s.replied, said);
-                        let next = s.head;
-                        k.heads[i] = next;
-                    } else {
-                        let e = g.ear;
-                        let mut next = k.heads[i];
-                        next.ear = e;
-                        k.heads[i] = next;
-                    }
-                    i += 1;
-                }
-                j += 1;
-            }
-            round::lay(space, replies);
-            heard = Heard::Replies(replies.count);
+    let mut heads = l.heads;
+    let mut next = from;
+    let heard = if !fits(l) {
+        Err(Refusal::Malformed)
+    } else if space.len() < 10 {
+        Err(Refusal::Space)
+    } else {
+        let mut replies = Replies::none();
+        // A `while`, since the place where it ends is handed back, and `from` may be past the last byte.
+        while next < bytes.len() && replies.count == 0 {
+            replies = round::heard(&mut heads[..l.count], bytes[next], at);
+            next += 1;
         }
-    }
+        round::lay(space, replies);
+        Ok(replies.count)
+    };
     Stretch {
-        line: k,
-        heard: heard,
-        next: j,
+        line: Line {
+            heads,
+            count: l.count,
+        },
+        heard,
+        next,
     }
 }
 
@@ -229,51 +199,64 @@ pub fn byte(l: Line, b: u8, at: u32, space: &mut [u8]) -> Fed
     ensures value { result ≡ byte_of l b at (length space.old) }
     ensures space_after { space.new ≡ byte_space_of l b at space.old }
 {
-    let one = [b];
-    let s = until_reply(l, &one, 0, at, space);
-    let line = s.line;
-    let heard = s.heard;
+    let s = until_reply(l, &[b], 0, at, space);
     Fed {
-        line: line,
-        heard: heard,
+        line: s.line,
+        heard: s.heard,
+    }
+}
+
+// Each of these heads hears a tick.
+fn tick_each(heads: &mut [Head], at: u32)
+    ensures { heads.new ≡ map (ticked_at at) heads.old }
+{
+    for h in heads.iter_mut() {
+        *h = moves::ticked(*h, at);
     }
 }
 
 // A tick for every head.
-#[tactic(auto, unfolding(crate::specs::Calls::tick_of))]
+#[tactic(auto, unfolding(crate::specs::Calls::tick_of), using(crate::proofs::Laws::fits_small, crate::proofs::Laws::each_map))]
 pub fn tick(l: Line, at: u32) -> Called
     ensures { result ≡ tick_of l at }
 {
-    if fits(l) {
-        let mut k = l;
-        let n = l.count;
-        let mut i: usize = 0;
-        while i < n {
-            let next = moves::ticked(k.heads[i], at);
-            k.heads[i] = next;
-            i += 1;
-        }
-        return done(k);
+    if !fits(l) {
+        return refused(l, Refusal::Malformed);
     }
-    refused(l, Refusal::Malformed)
+    let mut heads = l.heads;
+    tick_each(&mut heads[..l.count], at);
+    done(Line {
+        heads,
+        count: l.count,
+    })
 }
 
-// A call that names a head: 20, then 3, then what the call made of that head alone, put back in its place, with its answer.
+// The head that a call names: 20, then 3.
+fn chosen(bringing: bool, l: Line, i: usize) -> Result<Head, Refusal>
+    ensures { result ≡ guarded Err (named_by bringing l i) (Ok (head_at l i)) }
+{
+    if !fits_by(bringing, l) {
+        return Err(Refusal::Malformed);
+    }
+    if i < l.count {
+        Ok(head_at(l, i))
+    } else {
+        Err(Refusal::NoHead)
+    }
+}
+
+// What a call made of the head that it names alone, put back in its place, with its answer.
 #[tactic(auto, unfolding(crate::specs::Calls::named_of))]
 fn named(bringing: bool, l: Line, i: usize, c: calls::Called) -> Called
     ensures { result ≡ named_of bringing l i c }
 {
-    if fits_by(bringing, l) {
-        if i < l.count {
-            let a = c.answer;
-            return Called {
-                line: placed(l, i, c.head),
-                answer: a,
-            };
-        }
-        return refused(l, Refusal::NoHead);
+    match chosen(bringing, l, i) {
+        Ok(_) => Called {
+            line: placed(l, i, c.head),
+            answer: c.answer,
+        },
+        Err(why) => refused(l, why),
     }
-    refused(l, Refusal::Malformed)
 }
 
 // A measurement of one head.
@@ -289,7 +272,7 @@ fn unfed(l: Line, why: Refusal) -> Fed
 {
     Fed {
         line: l,
-        heard: Heard::Refused(why),
+        heard: Err(why),
     }
 }
 
@@ -299,18 +282,16 @@ pub fn keys(l: Line, i: usize, state: u32, space: &mut [u8]) -> Fed
     ensures value { result ≡ keys_of l i state (length space.old) }
     ensures space_after { space.new ≡ keys_space_of l i state space.old }
 {
-    if fits(l) {
-        if i < l.count {
-            let f = calls::keys(head_at(l, i), state, space);
-            let heard = f.heard;
-            return Fed {
+    match chosen(false, l, i) {
+        Ok(h) => {
+            let f = calls::keys(h, state, space);
+            Fed {
                 line: placed(l, i, f.head),
-                heard: heard,
-            };
+                heard: f.heard,
+            }
         }
-        return unfed(l, Refusal::NoHead);
+        Err(why) => unfed(l, why),
     }
-    unfed(l, Refusal::Malformed)
 }
 
 // Power off and on at one head.
@@ -331,30 +312,18 @@ pub fn bring(l: Line, i: usize) -> Called
 
 // What the last damaged telegram that one head heard was hit by.
 #[tactic(auto, unfolding(crate::specs::Calls::last_hit_of))]
-pub fn last_hit(l: Line, i: usize) -> Hit
+pub fn last_hit(l: Line, i: usize) -> Result<u8, Refusal>
     ensures { result ≡ last_hit_of l i }
 {
-    if fits(l) {
-        if i < l.count {
-            return calls::last_hit(head_at(l, i));
-        }
-        return Hit::Refused(Refusal::NoHead);
-    }
-    Hit::Refused(Refusal::Malformed)
+    calls::last_hit(chosen(false, l, i)?)
 }
 
 // The serial number of one head.
 #[tactic(auto, unfolding(crate::specs::Calls::serial_number_of))]
-pub fn serial_number(l: Line, i: usize) -> Serial
+pub fn serial_number(l: Line, i: usize) -> Result<u32, Refusal>
     ensures { result ≡ serial_number_of l i }
 {
-    if fits(l) {
-        if i < l.count {
-            return calls::serial_number(head_at(l, i));
-        }
-        return Serial::Refused(Refusal::NoHead);
-    }
-    Serial::Refused(Refusal::Malformed)
+    calls::serial_number(chosen(false, l, i)?)
 }
 
 // A sheet loaded into one head.
@@ -367,15 +336,9 @@ pub fn load(l: Line, i: usize, sheet: &[u8]) -> Called
 
 // The settings of one head written on a sheet at the start of the space: 20, then 3, then what the head alone writes.
 #[tactic(auto, unfolding(crate::specs::Calls::save_of, crate::specs::Calls::save_space_of))]
-pub fn save(l: Line, i: usize, space: &mut [u8]) -> Answer
+pub fn save(l: Line, i: usize, space: &mut [u8]) -> Result<(), Refusal>
     ensures value { result ≡ save_of l i (length space.old) }
     ensures space_after { space.new ≡ save_space_of l i space.old }
 {
-    if fits(l) {
-        if i < l.count {
-            return calls::save(head_at(l, i), space);
-        }
-        return Answer::Refused(Refusal::NoHead);
-    }
-    Answer::Refused(Refusal::Malformed)
+    calls::save(chosen(false, l, i)?, space)
 }

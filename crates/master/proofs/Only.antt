@@ -1,5 +1,6 @@
 -- What is asked of a master leaves nothing open: two that do it build the same of all fields, and read the same in all bytes.
 -- Assumes nothing.
+use Rattle.std.specs.Prelude.{Ok, Err, Result, ⊤}
 use Prim.Native.Nat.{ℕ}
 use mathlib.Core.Path.{◌≡◌, refl, sym, ◌∙◌}
 use mathlib.Core.Bool.{Bool, true, false, true≢false}
@@ -11,15 +12,14 @@ use lib.Dec.{eqb, leb}
 use lib.ListN.{get_or}
 use Rattle.wire.specs.declared.telegram.Telegram.{Telegram}
 use Rattle.master.specs.declared.Refusal.TheVariants.{Outside}
-use Rattle.master.specs.declared.Answer.{Answer}
-use Rattle.master.specs.declared.Answer.TheVariants.{Done, Refused}
 use Rattle.master.specs.Demand.{Master, number_of, May, Belongs, ReadsErrors, Demanded}
 use Rattle.master.proofs.Demands.{belongs_all, belongs, all_hold}
+use Rattle.master.specs.declared.Refusal.{Refusal}
 
 -- 10 is one refusal
-one_ten : (a : Answer) → number_of a ≡ 10 → a ≡ Refused Outside
-one_ten Done e = absurd (omega (arith, e))
-one_ten (Refused Outside) e = refl
+one_ten : (a : Result ⊤ Refusal) → number_of a ≡ 10 → a ≡ Err Outside
+one_ten (Ok tt) e = absurd (omega (arith, e))
+one_ten (Err Outside) e = refl
 
 may_either : (q : Telegram) → May q ⊎ (May q → ⊥)
 may_either q = go (leb q.command 2) refl (leb q.node 127) refl

@@ -1,16 +1,15 @@
 -- What is asked of a master (document 02, request (vi)), of any master: what it builds of fields, and what it reads in bytes.
 -- Assumes nothing.
-use Rattle.std.specs.Prelude.{ℕ, ◌+◌, ◌*◌, ◌≤◌, ◌≡◌, ◌≢◌, ◌⊎◌, List, length, get_or, replicate}
+use Rattle.std.specs.Prelude.{ℕ, ◌+◌, ◌*◌, ◌≤◌, ◌≡◌, ◌≢◌, ◌⊎◌, List, length, get_or, replicate, Ok, Err, Result, ⊤}
 use Rattle.wire.specs.declared.telegram.Telegram.{Telegram}
 use Rattle.wire.specs.Word.{half_of, whole_of}
 use Rattle.wire.specs.Check.{hit_of}
 use Rattle.wire.specs.Telegram.{bytes_of, Fits}
-use Rattle.master.specs.declared.Answer.{Answer}
-use Rattle.master.specs.declared.Answer.TheVariants.{Done, Refused}
 use Rattle.master.specs.declared.Built.{Built}
 use Rattle.master.specs.declared.Reading.{Reading}
 use Rattle.master.specs.declared.Reading.TheVariants.{Value, Error, Foreign}
 use Rattle.master.specs.Master.{refusal_of, built_of, reading_of}
+use Rattle.master.specs.declared.Refusal.{Refusal}
 
 -- the calls of a master: a telegram built of its fields, and bytes read as the reply to a question
 pub record Master : Type 0 where
@@ -22,9 +21,9 @@ abbrev pub product : Master
 product = record { build = built_of; read = reading_of }
 
 -- 0 where a telegram is built, else the number of the refusal
-abbrev pub number_of : Answer → ℕ
-number_of Done = 0
-number_of (Refused why) = refusal_of why
+abbrev pub number_of : Result ⊤ Refusal → ℕ
+number_of (Ok tt) = 0
+number_of (Err why) = refusal_of why
 
 -- ---- building
 -- a command up to 02h and a node up to 127
@@ -42,7 +41,7 @@ pub record Spelled (question : Telegram) (ten : List ℕ) : Type 0 where
 
 -- the ten bytes of document 01, as the heads' own telegrams are made (wire): they pass the check and spell the fields, where bytes can hold these
 pub record Builds (question : Telegram) (b : Built) : Type 0 where
-  pub done : b.answer ≡ Done
+  pub done : b.answer ≡ (Ok tt)
   pub bytes : b.ten ≡ bytes_of question
   pub long : length b.ten ≡ 10
   pub passes : hit_of b.ten ≡ 0

@@ -1,13 +1,12 @@
 -- The master's end of the wire (document 02, request (vi)): any command telegram of its fields, and bytes read as the reply to a question.
 -- Assumes nothing.
-use Rattle.std.specs.Prelude.{ℕ, Bool, cond, not, ◌&&◌, ◌||◌, List, leb, eqb, length, get_or, replicate}
+use Rattle.std.specs.Prelude.{ℕ, Bool, cond, not, ◌&&◌, ◌||◌, List, leb, eqb, length, get_or, replicate, Ok, Err}
 use Rattle.wire.specs.declared.telegram.Telegram.{Telegram}
 use Rattle.wire.specs.Word.{half_of}
 use Rattle.wire.specs.Check.{hit_of}
 use Rattle.wire.specs.Telegram.{fields_of, bytes_of}
 use Rattle.master.specs.declared.Refusal.{Refusal}
 use Rattle.master.specs.declared.Refusal.TheVariants.{Outside}
-use Rattle.master.specs.declared.Answer.TheVariants.{Done, Refused}
 use Rattle.master.specs.declared.Built.{Built}
 use Rattle.master.specs.declared.Reading.{Reading}
 use Rattle.master.specs.declared.Reading.TheVariants.{Value, Error, Foreign}
@@ -21,10 +20,10 @@ abbrev pub may_build : Telegram → Bool
 may_build question = leb question.command 2 && leb question.node 127
 
 abbrev pub refused : Built
-refused = record { answer = Refused Outside; ten = replicate 10 0 }
+refused = record { answer = Err Outside; ten = replicate 10 0 }
 
 unfoldable pub built_of : Telegram → Built
-built_of question = cond (may_build question) (record { answer = Done; ten = bytes_of question }) refused
+built_of question = cond (may_build question) (record { answer = Ok tt; ten = bytes_of question }) refused
 
 -- ---- reading: the same command and node, and the same parameter or FDh; nothing belongs to a broadcast
 abbrev pub belongs_of : Telegram → Telegram → Bool

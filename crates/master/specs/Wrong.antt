@@ -1,12 +1,11 @@
 -- Masters that are wrong, each in one thing: proofs/Wrongs shows that none does what is asked (Demand).
 -- Assumes nothing.
-use Rattle.std.specs.Prelude.{ℕ, Bool, true, false, cond, not, ◌&&◌, ◌||◌, List, leb, eqb, length, get_or}
+use Rattle.std.specs.Prelude.{ℕ, Bool, true, false, cond, not, ◌&&◌, ◌||◌, List, leb, eqb, length, get_or, Ok, Err}
 use Rattle.wire.specs.declared.telegram.Telegram.{Telegram}
 use Rattle.wire.specs.Word.{half_of}
 use Rattle.wire.specs.Check.{hit_of}
 use Rattle.wire.specs.Telegram.{fields_of, bytes_of}
 use Rattle.master.specs.declared.Refusal.TheVariants.{Outside}
-use Rattle.master.specs.declared.Answer.TheVariants.{Done, Refused}
 use Rattle.master.specs.declared.Reading.TheVariants.{Value, Error, Foreign}
 use Rattle.master.specs.Master.{may_build, refused, built_of, belongs_of, error_of, code_in, reading_of}
 use Rattle.master.specs.Demand.{Master}
@@ -113,7 +112,7 @@ upper_code =
 -- ---- building by another test
 abbrev building : (Telegram → Bool) → Master
 building may =
-    record { build = λ question. cond (may question) (record { answer = Done; ten = bytes_of question }) refused; read = reading_of }
+    record { build = λ question. cond (may question) (record { answer = Ok tt; ten = bytes_of question }) refused; read = reading_of }
 
 -- builds command 3, node 128; not node 0
 abbrev pub command_three : Master
@@ -127,4 +126,4 @@ node_from_one = building (λ question. may_build question && leb 1 question.node
 
 -- refuses, and builds all the same
 abbrev pub built_anyhow : Master
-built_anyhow = record { build = λ question. record { answer = cond (may_build question) Done (Refused Outside); ten = bytes_of question }; read = reading_of }
+built_anyhow = record { build = λ question. record { answer = cond (may_build question) (Ok tt) (Err Outside); ten = bytes_of question }; read = reading_of }

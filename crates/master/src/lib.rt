@@ -1,7 +1,7 @@
 // The other end of the wire: command telegrams built of their fields, and replies read against what was asked.
 #![tactic(auto)]
 
-ghost use Rattle.std.specs.Prelude.{◌≡◌, length};
+ghost use Rattle.std.specs.Prelude.{◌≡◌};
 ghost use Rattle.master.specs.Master.{refusal_of, may_build, built_of, belongs_of, error_of, code_in, meaning_of, reading_of};
 
 use wire::telegram::Telegram;
@@ -10,37 +10,27 @@ use wire::{check, telegram, word};
 // Why a telegram is not built: its command is above 02h, or its node above 127.
 #[derive(Clone, Copy)]
 pub enum Refusal {
-    Outside,
+    Outside = 10,
 }
 
 impl Refusal {
-    pub const OUTSIDE: u32 = 10;
-
     // The document's number.
     pub fn number(self) -> u32
         ensures { result ≡ refusal_of self }
     {
-        match self {
-            Refusal::Outside => Refusal::OUTSIDE,
-        }
+        self as u32
     }
 }
 
-#[derive(Clone, Copy)]
-pub enum Answer {
-    Done,
-    Refused(Refusal),
-}
-
-// The ten bytes of a telegram, and all 0 where none is built.
+// The ten bytes of a telegram, and all 0 where none is built. They are not in the answer's Ok: `Refuses.nothing` speaks of those of a refused one.
 #[repr(C)]
 #[derive(Clone, Copy)]
 pub struct Built {
-    pub answer: Answer,
+    pub answer: Result<(), Refusal>,
     pub ten: [u8; 10],
 }
 
-// What bytes say as the reply to a question: its value, its error code, or that they are no reply to what was asked.
+// What bytes say as the reply to a question: its value, its error code, or that they are no reply to what was asked. Three outcomes, so an enum of its own.
 #[derive(Clone, Copy)]
 pub enum Reading {
     Value(u32),
@@ -51,7 +41,7 @@ pub enum Reading {
 fn may_build(question: Telegram) -> bool
     ensures { result ≡ may_build question }
 {
-    (question.command <= 2) & (question.node <= 127)
+    question.command <= 2 && question.node <= 127
 }
 
 // A command telegram of its fields.
@@ -60,15 +50,15 @@ pub fn build(question: Telegram) -> Built
     ensures { result ≡ built_of question }
 {
     if may_build(question) {
-        return Built {
-            answer: Answer::Done,
+        Built {
+            answer: Ok(()),
             ten: telegram::bytes(question),
-        };
-    }
-    let none = [0u8; 10];
-    Built {
-        answer: Answer::Refused(Refusal::Outside),
-        ten: none,
+        }
+    } else {
+        Built {
+            answer: Err(Refusal::Outside),
+            ten: [0; 10],
+        }
     }
 }
 
@@ -76,17 +66,17 @@ pub fn build(question: Telegram) -> Built
 fn belongs(question: Telegram, reply: Telegram) -> bool
     ensures { result ≡ belongs_of question reply }
 {
-    (question.command != 2)
-        & ((reply.command == question.command)
-            & ((reply.node == question.node)
-                & ((reply.parameter == question.parameter) | (reply.parameter == 0xFD))))
+    question.command != 2
+        && reply.command == question.command
+        && reply.node == question.node
+        && (reply.parameter == question.parameter || reply.parameter == 0xFD)
 }
 
 // Whether a reply that belongs to the question tells of an error: FDh does, save to a read of FDh itself.
 fn is_error(question: Telegram, reply: Telegram) -> bool
     ensures { result ≡ error_of question reply }
 {
-    (reply.parameter == 0xFD) & ((question.command != 0) | (question.parameter != 0xFD))
+    reply.parameter == 0xFD && (question.command != 0 || question.parameter != 0xFD)
 }
 
 // The error code of a reply: of its data only the low two bytes are looked at.
@@ -102,20 +92,13 @@ fn meaning(question: Telegram, ten: [u8; 10]) -> Reading
     ensures { result ≡ meaning_of question ten }
 {
     let reply = telegram::fields(ten);
-    if (check::hit(ten) == 0) & belongs(question, reply) {
-        if is_error(question, reply) {
-            return Reading::Error(code(ten));
-        }
-        return Reading::Value(reply.value);
+    if check::hit(ten) != 0 || !belongs(question, reply) {
+        Reading::Foreign
+    } else if is_error(question, reply) {
+        Reading::Error(code(ten))
+    } else {
+        Reading::Value(reply.value)
     }
-    Reading::Foreign
-}
-
-fn array(b: &[u8]) -> [u8; 10]
-    requires { length b.now ≡ 10 }
-    ensures { result ≡ b.now }
-{
-    [b[0], b[1], b[2], b[3], b[4], b[5], b[6], b[7], b[8], b[9]]
 }
 
 // Bytes, as many as there are, as the reply to the question.
@@ -123,8 +106,8 @@ fn array(b: &[u8]) -> [u8; 10]
 pub fn read(question: Telegram, reply: &[u8]) -> Reading
     ensures { result ≡ reading_of question reply.now }
 {
-    if reply.len() == 10 {
-        return meaning(question, array(reply));
+    match <[u8; 10]>::try_from(reply) {
+        Ok(ten) => meaning(question, ten),
+        Err(_) => Reading::Foreign,
     }
-    Reading::Foreign
 }

@@ -1,12 +1,11 @@
 -- A number in decimal digits: the library's are the definition's, no more than twenty, and read back as the number. By induction over how many digits
 -- there may be.
 -- Assumes nothing.
-use Rattle.std.proofs.Common.{◌≡◌, ℕ, zero, suc, ◌+◌, ◌-◌, ◌*◌, ◌/◌, ◌%◌, ◌^◌, ◌<◌, ◌≤◌, min, Bool, true, false, ltb, List, [], ◌∷◌, ◌++◌, length, sym, refl, ap, ◌∙◌, append_assoc, append-nil, arith, ltb-false, ltb-true, lt-ltb, le-ltb, le-leb}
+use Rattle.std.proofs.Common.{◌≡◌, ℕ, zero, suc, ◌+◌, ◌-◌, ◌*◌, ◌/◌, ◌%◌, ◌^◌, ◌<◌, ◌≤◌, min, Bool, true, false, ltb, List, [], ◌∷◌, ◌++◌, length, sym, refl, ap, ◌∙◌, append_assoc, append-nil, arith, ltb-false, ltb-true, lt-ltb, le-ltb, le-leb, Some}
 use Prim.Native.Char.{code}
 use native.Mathlib.Nat.{pow-succ'}
 use Rattle.std.specs.Fmt.{decimal}
 use Rattle.std.proofs.lemmas.Fmt.{decimal_by_steps}
-use Rattle.text.specs.declared.numbers.Number.TheVariants as number
 use Rattle.text.specs.Numbers.{within, digits, is_decimal, value_from, value_of, number_of}
 use Rattle.office.specs.Decimal.{digits_before, decimal_of}
 
@@ -95,7 +94,7 @@ some_digits [] h e = absurd (omega arith)
 some_digits (c ∷ cs) h e = e
 
 -- a number of 64 bits is read back from its digits
-pub read_back : (limit n : ℕ) → n < 2 ^ 64 → n ≤ limit → number_of limit (decimal_of n) ≡ number.Is n
+pub read_back : (limit n : ℕ) → n < 2 ^ 64 → n ≤ limit → number_of limit (decimal_of n) ≡ Some n
 unfolding number_of
 read_back limit n fits within =
     let k = decimal_reads n in

@@ -1,4 +1,3 @@
 pub mod Decimals
-pub mod Put
 pub mod Bytes
 pub mod Lines

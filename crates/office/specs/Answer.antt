@@ -1,26 +1,12 @@
 -- The answers of the program, byte by byte (document 02, request (xiii)): a reply is the line that bench writes for it.
 -- Assumes nothing.
-use Rattle.std.specs.Prelude.{ℕ, List, ◌++◌, take, replicate}
-use Prim.Native.Char.{code}
+use Rattle.std.specs.Prelude.{ℕ, List, ◌++◌}
 use Rattle.text.specs.Text.{text}
-use Rattle.text.specs.Laid.{laid_of, kept_of}
 use Rattle.hex_digits.specs.Digits.{line_of}
 use Rattle.engine.specs.declared.Outcome.{Outcome}
 use Rattle.engine.specs.declared.Outcome.TheVariants.{Silence, Reply, Refused}
 use Rattle.engine.specs.Answer.{refusal_of}
-use Rattle.office.specs.declared.answer.Line.{Line}
 use Rattle.office.specs.Decimal.{decimal_of}
-
--- an answer that is being put together: none yet, and a piece more
-abbrev pub blank_of : Line
-blank_of = record { text = replicate 64 (code " "); count = 0 }
-
-abbrev pub put_of : Line → List ℕ → Line
-put_of l piece = record { text = laid_of l.text l.count piece; count = kept_of l.text l.count piece }
-
--- what is written of it
-abbrev pub written : Line → List ℕ
-written l = take l.count l.text
 
 -- the lines
 abbrev pub silence_line : List ℕ

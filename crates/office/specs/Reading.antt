@@ -1,6 +1,6 @@
 -- How a list of telegrams is read: what its lines do, and what the program holds of it.
 -- Assumes nothing.
-use Rattle.std.specs.Prelude.{ℕ, ◌+◌, ◌%◌, ◌^◌, List, [], ◌∷◌, ◌++◌, take}
+use Rattle.std.specs.Prelude.{ℕ, ◌+◌, ◌%◌, ◌^◌, List, [], ◌∷◌, ◌++◌}
 use Rattle.state.specs.declared.parts.Head.{Head}
 use Rattle.text.specs.Reading.{Progress}
 use Rattle.office.specs.declared.reading.Reading.{Reading}
@@ -35,12 +35,12 @@ pub record Told : Type 0 where
 abbrev pub told_of : Told → List ℕ → Told
 told_of t line = record { state = noted_of t.state line; said = t.said ++ answered_of t.state line }
 
--- what the program holds: the text is the start of a lent line
+-- what the program holds
 abbrev pub state_of : Reading → State
 state_of r = record { head = r.head; lines = r.lines }
 
 abbrev pub progress_of : Reading → List ℕ → Progress State
-progress_of r line = record { state = state_of r; text = take r.kept line }
+progress_of r line = record { state = state_of r; text = line }
 
 -- as much of a line as its meaning needs: a longer one is malformed, whatever it holds
 abbrev pub most : ℕ

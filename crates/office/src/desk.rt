@@ -1,6 +1,6 @@
 // The head on the desk, and what a line of the list does to it.
-ghost use Rattle.std.specs.Prelude.{◌≡◌, ◌≤◌, length};
-ghost use Rattle.office.specs.Answer.{written, outcome_line};
+ghost use Rattle.std.specs.Prelude.{◌≡◌};
+ghost use Rattle.office.specs.Answer.{outcome_line};
 ghost use Rattle.office.specs.Desk.{fresh_of, ten_of, told_of, obeyed_of, answer_to};
 
 use crate::answer;
@@ -9,9 +9,10 @@ use head::calls;
 use script::telegrams;
 use script::telegrams::Entry;
 use state::parts::Head;
+use std::array;
 
 // The head after a line, and the answer to it.
-#[derive(Clone, Copy)]
+#[derive(Drop)]
 pub(crate) struct Spoken {
     pub head: Head,
     pub line: Line,
@@ -28,28 +29,18 @@ pub(crate) fn fresh() -> Head
 fn ten(text: &[u8], from: usize) -> [u8; 10]
     ensures { result ≡ ten_of text.now from }
 {
-    let mut bytes = [0u8; 10];
-    let mut i: usize = 0;
-    while i < 10 {
-        bytes[i] = script::byte_at(text, from, i);
-        i += 1;
-    }
-    bytes
+    array::from_fn(|i| script::byte_at(text, from, i))
 }
 
 // Ten bytes put to the head, at time 0.
 fn told(h: Head, bytes: [u8; 10]) -> Spoken
     ensures head_value { result.head ≡ (told_of h bytes).head }
-    ensures line_value { written result.line ≡ outcome_line (told_of h bytes).outcome (told_of h bytes).reply }
-    ensures count_in_bounds { result.line.count ≤ length result.line.text }
+    ensures line_value { result.line ≡ outcome_line (told_of h bytes).outcome (told_of h bytes).reply }
 {
     let a = engine::answer(h, bytes, 0);
-    let head = a.head;
-    let what = a.outcome;
-    let reply = a.reply;
     Spoken {
-        head: head,
-        line: answer::outcome(what, reply),
+        head: a.head,
+        line: answer::outcome(a.outcome, a.reply),
     }
 }
 
@@ -57,13 +48,12 @@ fn told(h: Head, bytes: [u8; 10]) -> Spoken
 #[tactic(auto, unfolding(crate::specs::Desk::obeyed_of, crate::specs::Desk::answer_to))]
 pub(crate) fn speak(h: Head, text: &[u8], number: u64) -> Spoken
     ensures head_value { result.head ≡ obeyed_of h text.now }
-    ensures line_value { written result.line ≡ answer_to h text.now number }
-    ensures count_in_bounds { result.line.count ≤ length result.line.text }
+    ensures line_value { result.line ≡ answer_to h text.now number }
 {
     match telegrams::meaning(text) {
         Entry::Blank => Spoken {
             head: h,
-            line: answer::blank(),
+            line: Line::new(),
         },
         Entry::Malformed => Spoken {
             head: h,

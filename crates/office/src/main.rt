@@ -3,7 +3,6 @@
 
 mod answer;
 mod desk;
-mod failing;
 mod help;
 mod reading;
 
@@ -11,8 +10,7 @@ use std::env::{Env, FillError};
 use std::process::ExitCode;
 
 fn main(rt: HostRuntime) -> ExitCode {
-    let mut none = [0u8; 0];
-    match rt.arg(1, &mut none) {
+    match rt.arg(1, &mut []) {
         Err(FillError::NotPresent) => reading::run(&rt),
         _ => help::explain(&rt),
     }

@@ -1,6 +1,6 @@
 -- Forms, and what the clerk is told of each, computed by the definition.
 -- Assumes nothing.
-use Rattle.std.proofs.Common.{◌≡◌, ℕ, ◌+◌, ◌/◌, ◌%◌, true, List, [], ◌∷◌, ◌++◌, map, replicate, refl}
+use Rattle.std.proofs.Common.{◌≡◌, ℕ, ◌+◌, ◌/◌, ◌%◌, true, List, [], ◌∷◌, ◌++◌, map, replicate, refl, Some, None}
 use Prim.Native.String.{String}
 use Rattle.head.proofs.Nodes.{node_same}
 use Rattle.text.specs.Text.{text}
@@ -11,7 +11,6 @@ use Rattle.form_text.specs.Cuts.{unmarked_of, trimmed_start_of, trimmed_end_of, 
 use Rattle.form_text.specs.Form.{any_digit, read_of, entry_of}
 use Rattle.order_form.specs.Rows.{first_of}
 use Rattle.order_form.specs.Check.{repeat_from, answer_of}
-use Rattle.free_number.specs.declared.map.Free.TheVariants.{Number, None}
 use Rattle.free_number.specs.Lowest.{span, first_free, lowest_of}
 use Rattle.order.specs.declared.desk.Notice.{Notice}
 use Rattle.order.specs.declared.desk.Notice.TheVariants.{Accepted, SameSerial, SameNumber, Outside, TooMany, Malformed}
@@ -50,27 +49,27 @@ abbrev searched : List Case
 searched =
     "4711,12" tells Accepted 1
     ∷ "serial,node\n4711,12\n4712,13\n" tells Accepted 2
-    ∷ "4711,12\n4712,13\n4713,12\n" tells SameNumber 3 12 1 (Number 1)
-    ∷ "4711,12\n4712,13\n4711,14\n" tells SameSerial 3 4711 1 (Number 1)
-    ∷ "4711,12\n4712,13\n4711,13\n" tells SameSerial 3 4711 1 (Number 1)
-    ∷ "# order 118\n\nserial;node\n4711;12\n\n4712;12" tells SameNumber 6 12 4 (Number 1)
-    ∷ "4711,12\n4712,12\n4711,12\n" tells SameNumber 2 12 1 (Number 1)
+    ∷ "4711,12\n4712,13\n4713,12\n" tells SameNumber 3 12 1 (Some 1)
+    ∷ "4711,12\n4712,13\n4711,14\n" tells SameSerial 3 4711 1 (Some 1)
+    ∷ "4711,12\n4712,13\n4711,13\n" tells SameSerial 3 4711 1 (Some 1)
+    ∷ "# order 118\n\nserial;node\n4711;12\n\n4712;12" tells SameNumber 6 12 4 (Some 1)
+    ∷ "4711,12\n4712,12\n4711,12\n" tells SameNumber 2 12 1 (Some 1)
     ∷ "4711,12\n4711,200\n" tells Outside 2 200
     ∷ "4711,0\n4711,200\n" tells Outside 1 0
     ∷ "\n4711,12\n\n4712,4294967295\n4713,128\n" tells Outside 4 4294967295
     ∷ "0,1\n4711,127\n" tells Accepted 2
-    ∷ "0,1\n\n0,2\n" tells SameSerial 3 0 1 (Number 3)
+    ∷ "0,1\n\n0,2\n" tells SameSerial 3 0 1 (Some 3)
     ∷ record { form = mark ++ text "4711,12\r\n"; tells = Accepted 1 }
     ∷ []
 
 -- the lowest number that no row has: rows after the one that repeats are looked at too, and a number that comes twice is used
 abbrev freed : List Case
 freed =
-    "4711,1\n4712,1\n" tells SameNumber 2 1 1 (Number 2)
-    ∷ "4711,2\n4712,2\n" tells SameNumber 2 2 1 (Number 1)
-    ∷ "4711,1\n4712,1\n4713,2\n4714,4\n" tells SameNumber 2 1 1 (Number 3)
-    ∷ "4711,3\n4711,1\n4713,3\n4714,2\n" tells SameSerial 2 4711 1 (Number 4)
-    ∷ "1,127\n2,127\n" tells SameNumber 2 127 1 (Number 1)
+    "4711,1\n4712,1\n" tells SameNumber 2 1 1 (Some 2)
+    ∷ "4711,2\n4712,2\n" tells SameNumber 2 2 1 (Some 1)
+    ∷ "4711,1\n4712,1\n4713,2\n4714,4\n" tells SameNumber 2 1 1 (Some 3)
+    ∷ "4711,3\n4711,1\n4713,3\n4714,2\n" tells SameSerial 2 4711 1 (Some 4)
+    ∷ "1,127\n2,127\n" tells SameNumber 2 127 1 (Some 1)
     ∷ []
 
 early_told : Hold early
@@ -90,7 +89,7 @@ freed_told = (simp node_same, (simp node_same, (simp node_same, (simp node_same,
 abbrev up_to : ℕ → List Placed
 up_to k = rows_in (lines_from 1 true (map (λ n. text "4711," ++ ((48 + n / 100) ∷ (48 + n / 10 % 10) ∷ (48 + n % 10) ∷ [])) (span 1 k)))
 
-next_free : (free_in (up_to 63) ≡ Number 64) × (free_in (up_to 64) ≡ Number 65) × (free_in (up_to 126) ≡ Number 127) × (free_in (up_to 127) ≡ None)
+next_free : (free_in (up_to 63) ≡ Some 64) × (free_in (up_to 64) ≡ Some 65) × (free_in (up_to 126) ≡ Some 127) × (free_in (up_to 127) ≡ None)
 unfolding entry_of unmarked_of bare_of trimmed_of trimmed_start_of trimmed_end_of front_of read_of any_digit number_of lowest_of first_free span
 next_free = (refl, refl, refl, refl)
 

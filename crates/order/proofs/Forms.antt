@@ -1,9 +1,8 @@
 -- What the program tells of a form, in whatever pieces it comes, is what its lines say: the desk stands as they say (Stands), the rows that an
 -- answer names are kept, and what is kept of a line means what the line means.
 -- Assumes nothing.
-use Rattle.std.proofs.Common.{◌≡◌, ℕ, suc, ◌+◌, ◌^◌, ◌<◌, ◌≤◌, Bool, true, false, ◌&&◌, eqb, List, [], ◌∷◌, ◌++◌, map, length, get_or, take, sym, refl, ap, ◌∙◌, ap₂, append-nil, arith, eq-eqb, ne_eqb, eqb-true}
+use Rattle.std.proofs.Common.{◌≡◌, ℕ, suc, ◌+◌, ◌^◌, ◌<◌, ◌≤◌, Bool, true, false, ◌&&◌, eqb, List, [], ◌∷◌, ◌++◌, map, length, take, sym, refl, ap, ◌∙◌, ap₂, append-nil, arith, eq-eqb, ne_eqb, eqb-true, Option}
 use mathlib.Core.List.{flatten}
-use mathlib.Core.Option.{Option, none, some}
 use borrow.Author.Tests.{eqb-false}
 use lib.ListN.{length-map}
 use lib.Seq.{append_snoc}
@@ -20,19 +19,18 @@ use Rattle.order_form.specs.Held.{no_row, check_of}
 use Rattle.order_form.proofs.Kept.{kept_at, length_snoc}
 use Rattle.order_form.proofs.Held.{Holds, holds, added}
 use Rattle.order_form.proofs.Demands.{Inside, inside}
-use Rattle.free_number.specs.declared.map.Free.{Free}
 use Rattle.free_number.specs.Lowest.{lowest_of}
 use Rattle.free_number.specs.Used.{used}
 use Rattle.free_number.proofs.Demands.{lowest_added}
 use Rattle.order.specs.declared.desk.Desk.{Desk}
 use Rattle.order.specs.declared.desk.Notice.TheVariants as notice
 use Rattle.order.specs.Written.{is_blank, Line, lines_from, malformed_in, rows_in, line_of, row_of, node_of, free_in, told_by, told_of, malformed_or, written_of}
-use Rattle.order.specs.Desk.{desk_of, entered_of, noted_of, said_of}
+use Rattle.order.specs.Desk.{desk_of, entered_of, noted_of, line_at, row_at, said_of}
 use Rattle.order.specs.Reading.{room}
-use Rattle.order.proofs.Stands.{number_of, Counted, Stands, none_stands, one_line}
+use Rattle.order.proofs.Stands.{Stands, none_stands, one_line}
 
 -- ---- what is told of the rows that an answer names, where these are the same
-told_same : (line line' : ℕ → ℕ) (row row' : ℕ → Row) (n n' : ℕ) (free : Free) (rows : List Row) (a : Answer) → Inside rows a
+told_same : (line line' : ℕ → ℕ) (row row' : ℕ → Row) (n n' : ℕ) (free : Option ℕ) (rows : List Row) (a : Answer) → Inside rows a
     → (length rows ≤ 127 → n ≡ n') → ((i : ℕ) → i < length rows → i < 127 → (line i ≡ line' i) × (row i ≡ row' i))
     → told_by line row n free a ≡ told_by line' row' n' free a
 told_same line line' row row' n n' free rows AllDiffer h count at = ap notice.Accepted (count h)
@@ -58,21 +56,17 @@ module _ (d : Desk) (before : List Line) (first : Bool) (k : Stands d before fir
   free_rows : lowest_of (used d.numbers) ≡ free_in (rows_in before)
   free_rows = rw k.numbers (lowest_added (map node_of (rows_in before)))
 
-  told_rows : told_by (λ i. get_or d.places i 0) (λ i. get_or d.form.rows i no_row) d.form.count (lowest_of (used d.numbers)) (check_of d.form)
+  told_rows : told_by (line_at d) (row_at d) d.form.count (lowest_of (used d.numbers)) (check_of d.form)
       ≡ told_of (rows_in before)
   told_rows =
-      ap₂ (told_by (λ i. get_or d.places i 0) (λ i. get_or d.form.rows i no_row) d.form.count) free_rows (ap check_of k.form ∙ added rows)
+      ap₂ (told_by (line_at d) (row_at d) d.form.count) free_rows (ap check_of k.form ∙ added rows)
       ∙ told_same _ _ _ _ _ _ (free_in (rows_in before)) rows (answer_of rows) (inside rows)
       (λ few. omega (arith, held.count, few, length-map (rows_in before) row_of))
       (λ i h l. (kept_at most _ _ k.places i 0 (omega (arith, long, h)) l, kept_at most _ _ held.are i no_row h l))
 
   tells : said_of d ≡ malformed_or (malformed_in before) (told_of (rows_in before))
   unfolding said_of
-  tells = go (malformed_in before) k.malformed k.counted
-    where
-      go : (o : Option ℕ) → d.malformed ≡ number_of o → Counted o → said_of d ≡ malformed_or o (told_of (rows_in before))
-      go none e c = rw e told_rows
-      go (some n) e c = rw (e, ne_eqb n 0 (λ z. omega arith))
+  tells = rw (k.malformed, told_rows)
 
 -- ---- all lines, one after another
 top : (n : ℕ) → eqb (suc n) 1 ≡ eqb n 0

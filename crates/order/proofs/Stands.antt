@@ -1,10 +1,10 @@
 -- What the program keeps is what the lines so far say: line by line, for each sort of line.
 -- Assumes nothing.
-use Rattle.std.proofs.Common.{◌≡◌, ℕ, suc, ◌+◌, ◌%◌, ◌^◌, ◌<◌, Bool, true, false, cond, ◌&&◌, eqb, ltb, List, [], ◌∷◌, ◌++◌, map, length, set, sym, refl, ap, ◌∙◌, append_assoc, append-nil, mod-eq_of_lt, arith, ltb-true, ne_eqb}
+use Rattle.std.proofs.Common.{◌≡◌, ℕ, suc, ◌+◌, ◌%◌, ◌^◌, ◌<◌, Bool, true, false, cond, ◌&&◌, ltb, List, [], ◌∷◌, ◌++◌, map, length, set, sym, refl, ap, ◌∙◌, append_assoc, append-nil, mod-eq_of_lt, arith, ltb-true, Option, Some, None}
 use mathlib.Core.Bool.{and-true, and-false}
 use mathlib.Core.List.{map-append}
-use mathlib.Core.Option.{Option, none, some}
 use lib.ListN.{length-map}
+use Rattle.std.specs.Option.{option_or}
 use Rattle.form_text.specs.declared.rows.Entry.{Entry}
 use Rattle.form_text.specs.declared.rows.Entry.TheVariants as entry
 use Rattle.order_form.specs.declared.row.Row.{Row}
@@ -19,15 +19,6 @@ use Rattle.order.specs.declared.desk.Desk.{Desk}
 use Rattle.order.specs.Written.{is_blank, is_malformed, Line, malformed_in, Placed, row_at, rows_in, line_of, row_of, node_of}
 use Rattle.order.specs.Desk.{desk_of, put_of, next_of, entered_of}
 
--- no line is numbered 0
-abbrev pub number_of : Option ℕ → ℕ
-number_of none = 0
-number_of (some n) = n
-
-abbrev pub Counted : Option ℕ → Type 0
-Counted none = Unit {0}
-Counted (some n) = 0 < n
-
 -- the desk after these lines
 pub record Stands (d : Desk) (before : List Line) (first : Bool) : Type 0 where
   pub lines : d.lines ≡ length before
@@ -35,12 +26,11 @@ pub record Stands (d : Desk) (before : List Line) (first : Bool) : Type 0 where
   pub form : d.form ≡ add_all blank_of (map row_of (rows_in before))
   pub places : Kept most (map line_of (rows_in before)) d.places
   pub numbers : d.numbers ≡ after product (adding start (map node_of (rows_in before)))
-  pub malformed : d.malformed ≡ number_of (malformed_in before)
-  pub counted : Counted (malformed_in before)
+  pub malformed : d.malformed ≡ malformed_in before
 
 pub none_stands : Stands desk_of [] true
 unfolding desk_of after
-none_stands = record { lines = refl; is_first_lem = refl; form = refl; places = none_kept desk_of.places; numbers = refl; malformed = refl; counted = tt }
+none_stands = record { lines = refl; is_first_lem = refl; form = refl; places = none_kept desk_of.places; numbers = refl; malformed = refl }
 
 -- ---- lists of lines, with one more
 rows_snoc : (before : List Line) (l : Line) → rows_in (before ++ (l ∷ [])) ≡ rows_in before ++ row_at l.number l.entry
@@ -50,23 +40,19 @@ rows_snoc (b ∷ before) l =
     ∙ sym (append_assoc (row_at b.number b.entry) (rows_in before) (row_at l.number l.entry))
 
 -- the first malformed line is one of those before, or else the last
-abbrev either : Option ℕ → Option ℕ → Option ℕ
-either none other = other
-either (some n) other = some n
-
 abbrev malformed_at : Line → Option ℕ
-malformed_at l = cond (is_malformed l.entry) (some l.number) none
+malformed_at l = cond (is_malformed l.entry) (Some l.number) None
 
-malformed_snoc : (before : List Line) (l : Line) → malformed_in (before ++ (l ∷ [])) ≡ either (malformed_in before) (malformed_at l)
+malformed_snoc : (before : List Line) (l : Line) → malformed_in (before ++ (l ∷ [])) ≡ option_or (malformed_in before) (malformed_at l)
 malformed_snoc [] l = refl
 malformed_snoc (b ∷ before) l =
-    elim (is_malformed b.entry) as (λ x. cond x (some b.number) (malformed_in (before ++ (l ∷ [])))
-    ≡ either (cond x (some b.number) (malformed_in before)) (malformed_at l))
+    elim (is_malformed b.entry) as (λ x. cond x (Some b.number) (malformed_in (before ++ (l ∷ [])))
+    ≡ option_or (cond x (Some b.number) (malformed_in before)) (malformed_at l))
     [ true ↦ refl | false ↦ malformed_snoc before l ]
 
-either_none : (o : Option ℕ) → either o none ≡ o
-either_none none = refl
-either_none (some n) = refl
+or_none : (o : Option ℕ) → option_or o None ≡ o
+or_none None = refl
+or_none (Some n) = refl
 
 -- ---- a row more, and its line
 put_kept : (xs places : List ℕ) (count line : ℕ) → ltb count most ≡ ltb (length xs) most → (length xs < most → count ≡ length xs)
@@ -99,7 +85,7 @@ module _ (d : Desk) (before : List Line) (first : Bool) (k : Stands d before fir
   same_rows e empty = rows_snoc before (record { number = number; entry = e }) ∙ rw (empty, append-nil)
 
   same_malformed : (e : Entry) → is_malformed e ≡ false → malformed_in (now e) ≡ malformed_in before
-  same_malformed e fine = malformed_snoc before (record { number = number; entry = e }) ∙ rw (fine, either_none)
+  same_malformed e fine = malformed_snoc before (record { number = number; entry = e }) ∙ rw (fine, or_none)
 
   passed : (e : Entry) (b : Bool) → row_at number e ≡ [] → is_malformed e ≡ false
       → Stands (record { form = d.form; places = d.places; numbers = d.numbers; lines = next_of d; first = b; malformed = d.malformed }) (now e) b
@@ -111,7 +97,6 @@ module _ (d : Desk) (before : List Line) (first : Bool) (k : Stands d before fir
         places = rw (same_rows e no_row) k.places;
         numbers = rw (same_rows e no_row) k.numbers;
         malformed = rw (same_malformed e fine) k.malformed;
-        counted = rw (same_malformed e fine) k.counted;
       }
 
   with_row : (serial node : ℕ) → Stands (entered_of d (entry.Row serial node)) (now (entry.Row serial node)) false
@@ -124,7 +109,6 @@ module _ (d : Desk) (before : List Line) (first : Bool) (k : Stands d before fir
         places = rw (next_line, rows, map-append) (put_kept (map line_of (rows_in before)) d.places d.form.count number test same k.places);
         numbers = rw (k.numbers, rows, map-append, adding_snoc);
         malformed = rw (same_malformed (entry.Row serial node) refl) k.malformed;
-        counted = rw (same_malformed (entry.Row serial node) refl) k.counted;
       }
     where
       row : Row
@@ -153,20 +137,11 @@ module _ (d : Desk) (before : List Line) (first : Bool) (k : Stands d before fir
         form = rw (same_rows entry.Malformed refl) k.form;
         places = rw (same_rows entry.Malformed refl) k.places;
         numbers = rw (same_rows entry.Malformed refl) k.numbers;
-        malformed = rw (last, k.malformed, next_line) (first_kept_lem (malformed_in before) k.counted);
-        counted = rw last (counted_kept (malformed_in before) k.counted);
+        malformed = rw (k.malformed, next_line) (sym last);
       }
     where
-      last : malformed_in (now entry.Malformed) ≡ either (malformed_in before) (some number)
+      last : malformed_in (now entry.Malformed) ≡ option_or (malformed_in before) (Some number)
       last = malformed_snoc before (record { number = number; entry = entry.Malformed })
-
-      first_kept_lem : (o : Option ℕ) → Counted o → cond (eqb (number_of o) 0) number (number_of o) ≡ number_of (either o (some number))
-      first_kept_lem none h = refl
-      first_kept_lem (some n) h = rw (ne_eqb n 0 (λ e. omega arith))
-
-      counted_kept : (o : Option ℕ) → Counted o → Counted (either o (some number))
-      counted_kept none h = omega arith
-      counted_kept (some n) h = h
 
   pub one_line : (e : Entry) → Stands (entered_of d e) (now e) (first && is_blank e)
   one_line entry.Blank = rw (and-true, ← k.is_first_lem) (passed entry.Blank d.first refl refl)

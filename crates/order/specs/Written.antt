@@ -1,7 +1,6 @@
 -- What the clerk is told of a written form, over the list of its lines.
 -- Assumes nothing.
-use Rattle.std.specs.Prelude.{ℕ, suc, Bool, true, false, cond, ◌&&◌, List, [], ◌∷◌, ◌++◌, map, length, ◌==◌, slice_index, slice_index_or}
-use Rattle.std.proofs.Math.Option.{Option, none, some}
+use Rattle.std.specs.Prelude.{ℕ, suc, Bool, true, false, cond, ◌&&◌, List, [], ◌∷◌, ◌++◌, map, length, ◌==◌, slice_index, slice_index_or, Option, Some, None}
 use Rattle.rows.specs.Among.{among}
 use Rattle.form_text.specs.declared.rows.Entry.{Entry}
 use Rattle.form_text.specs.declared.rows.Entry.TheVariants as entry
@@ -15,7 +14,6 @@ use Rattle.order_form.specs.declared.answer.Refusal.{Refusal}
 use Rattle.order_form.specs.declared.answer.Refusal.TheVariants.{Outside, TooMany}
 use Rattle.order_form.specs.Check.{answer_of}
 use Rattle.order_form.specs.Held.{no_row}
-use Rattle.free_number.specs.declared.map.Free.{Free}
 use Rattle.free_number.specs.Lowest.{lowest_of}
 use Rattle.order.specs.declared.desk.Notice.{Notice}
 use Rattle.order.specs.declared.desk.Notice.TheVariants as notice
@@ -48,8 +46,8 @@ lines_from n first (l ∷ ls) =
 
 -- the first malformed line
 abbrev pub malformed_in : List Line → Option ℕ
-malformed_in [] = none
-malformed_in (l ∷ ls) = cond (is_malformed l.entry) (some l.number) (malformed_in ls)
+malformed_in [] = None
+malformed_in (l ∷ ls) = cond (is_malformed l.entry) (Some l.number) (malformed_in ls)
 
 -- ---- the rows
 -- a row, and the number of its line
@@ -69,7 +67,7 @@ rows_in (l ∷ ls) = row_at l.number l.entry ++ rows_in ls
 
 -- ---- what is told
 -- of a row that repeats an earlier one in the column: its line, the row, the earlier line, and the number that is free
-abbrev pub repeated_by : Column → ℕ → Row → ℕ → Free → Notice
+abbrev pub repeated_by : Column → ℕ → Row → ℕ → Option ℕ → Notice
 repeated_by Serial line row earlier free = notice.SameSerial line row.serial earlier free
 repeated_by Number line row earlier free = notice.SameNumber line row.node earlier free
 
@@ -78,7 +76,7 @@ abbrev pub refused_by : (ℕ → ℕ) → (ℕ → Row) → Refusal → Notice
 refused_by line row (Outside i) = notice.Outside (line i) (row i).node
 refused_by line row TooMany = notice.TooMany
 
-abbrev pub told_by : (ℕ → ℕ) → (ℕ → Row) → ℕ → Free → Answer → Notice
+abbrev pub told_by : (ℕ → ℕ) → (ℕ → Row) → ℕ → Option ℕ → Answer → Notice
 told_by line row n free AllDiffer = notice.Accepted n
 told_by line row n free (Repeats c i j) = repeated_by c (line i) (row i) (line j) free
 told_by line row n free (Refused why) = refused_by line row why
@@ -93,7 +91,7 @@ abbrev pub node_of : Placed → ℕ
 node_of p = p.row.node
 
 -- the lowest number that no row of the form has, be it before or after the row that repeats one
-abbrev pub free_in : List Placed → Free
+abbrev pub free_in : List Placed → Option ℕ
 free_in rows = lowest_of (among (map node_of rows))
 
 abbrev pub told_of : List Placed → Notice
@@ -102,8 +100,8 @@ told_of rows =
 
 -- a malformed line goes before all else
 abbrev pub malformed_or : Option ℕ → Notice → Notice
-malformed_or none other = other
-malformed_or (some line) other = notice.Malformed line
+malformed_or None other = other
+malformed_or (Some line) other = notice.Malformed line
 
 unfoldable pub written_of : List (List ℕ) → Notice
 written_of ls = let all = lines_from 1 true ls in malformed_or (malformed_in all) (told_of (rows_in all))

@@ -1,12 +1,11 @@
 // What is known of a form after some of its lines, and what the clerk is told after all.
-ghost use Rattle.std.specs.Prelude.{◌≡◌, get_or, slice_index, slice_index_or};
-ghost use Rattle.order_form.specs.Held.{no_row};
+ghost use Rattle.std.specs.Prelude.{◌≡◌};
 ghost use Rattle.order.specs.Written.{repeated_by, refused_by, told_by};
-ghost use Rattle.order.specs.Desk.{desk_of, put_of, with_row_of, entered_of, noted_of, said_of};
+ghost use Rattle.order.specs.Desk.{desk_of, with_row_of, entered_of, noted_of, line_at, row_at, said_of};
 
 use form_text::rows::Entry;
 use free_number::map;
-use free_number::map::{Free, Map};
+use free_number::map::Map;
 use order_form::answer::{Answer, Refusal};
 use order_form::form;
 use order_form::form::Form;
@@ -16,15 +15,16 @@ use order_form::row::{Column, Row};
 const ROOM: usize = 127;
 
 // The rows, the line that each stands in, the numbers that they have, how many lines there were, whether all of them were blank or comments, and the
-// first that is malformed, 0 where none is.
+// first that is malformed, if one is.
 #[derive(Clone, Copy)]
 pub(crate) struct Desk {
     pub form: Form,
+    // An array beside the rows, not one of pairs: the rows lie in the `Form` that is checked, and it knows no lines.
     pub places: [u64; 127],
     pub numbers: Map,
     pub lines: u64,
     pub first: bool,
-    pub malformed: u64,
+    pub malformed: Option<u64>,
 }
 
 // What the clerk is told. Lines are counted from 1. A form that is sent back comes with the lowest number that none of its rows has.
@@ -35,13 +35,13 @@ pub(crate) enum Notice {
         line: u64,
         serial: u32,
         earlier: u64,
-        free: Free,
+        free: Option<u32>,
     },
     SameNumber {
         line: u64,
         node: u32,
         earlier: u64,
-        free: Free,
+        free: Option<u32>,
     },
     Outside {
         line: u64,
@@ -62,67 +62,97 @@ pub(crate) fn bare() -> Desk
         numbers: map::empty(),
         lines: 0,
         first: true,
-        malformed: 0,
+        malformed: None,
     }
 }
 
-// The line of a row that comes after so many others, put in its place where there is one.
-fn put(places: [u64; 127], rows: usize, line: u64) -> [u64; 127]
-    ensures { result ≡ put_of places rows line }
-{
-    let mut p = places;
-    if rows < ROOM {
-        p[rows] = line;
+impl Desk {
+    // One row more, in the last line. A number that a row has already, or that no head can have, leaves the map as it is.
+    fn add(&mut self, row: Row)
+        ensures { self.new ≡ with_row_of self.old row }
+    {
+        if self.form.count < ROOM {
+            self.places[self.form.count] = self.lines;
+        }
+        self.form = form::add(self.form, row);
+        self.numbers = map::add(self.numbers, row.node).map;
     }
-    p
-}
 
-// One row more, and its line. A number that a row has already, or that no head can have, leaves the map as it is.
-fn with_row(desk: Desk, row: Row, line: u64) -> Desk
-    ensures { result ≡ with_row_of desk row line }
-{
-    let mut d = desk;
-    let form = d.form;
-    let before = d.places;
-    let places = put(before, form.count, line);
-    d.places = places;
-    let more = form::add(form, row);
-    d.form = more;
-    let change = map::add(d.numbers, row.node);
-    let numbers = change.map;
-    d.numbers = numbers;
-    d
+    // The line of a row.
+    fn line(&self, row: usize) -> u64
+        ensures { result ≡ line_at self.now row }
+    {
+        self.places.get(row).copied().unwrap_or(0)
+    }
+
+    // A row.
+    fn row(&self, row: usize) -> Row
+        ensures { result ≡ row_at self.now row }
+    {
+        let none = Row { serial: 0, node: 0 };
+        self.form.rows.get(row).copied().unwrap_or(none)
+    }
+
+    // What is told of a row that repeats an earlier one in the column.
+    fn repeated(&self, column: Column, row: usize, earlier: usize, free: Option<u32>) -> Notice
+        ensures { result ≡ repeated_by column (line_at self.now row) (row_at self.now row) (line_at self.now earlier) free }
+    {
+        let line = self.line(row);
+        let earlier = self.line(earlier);
+        let Row { serial, node } = self.row(row);
+        match column {
+            Column::Serial => Notice::SameSerial {
+                line,
+                serial,
+                earlier,
+                free,
+            },
+            Column::Number => Notice::SameNumber {
+                line,
+                node,
+                earlier,
+                free,
+            },
+        }
+    }
+
+    // What is told of a refusal.
+    fn refused(&self, why: Refusal) -> Notice
+        ensures { result ≡ refused_by (line_at self.now) (row_at self.now) why }
+    {
+        match why {
+            Refusal::Outside(row) => Notice::Outside {
+                line: self.line(row),
+                node: self.row(row).node,
+            },
+            Refusal::TooMany => Notice::TooMany,
+        }
+    }
+
+    // What is told of the rows, by the answer to them.
+    fn told(&self, free: Option<u32>, answer: Answer) -> Notice
+        ensures { result ≡ told_by (line_at self.now) (row_at self.now) self.now.form.count free answer }
+    {
+        match answer {
+            Answer::AllDiffer => Notice::Accepted(self.form.count),
+            Answer::Repeats(column, row, earlier) => self.repeated(column, row, earlier, free),
+            Answer::Refused(why) => self.refused(why),
+        }
+    }
 }
 
 // One line more, which is this.
-fn entered(desk: Desk, entry: Entry) -> Desk
+fn entered(mut desk: Desk, entry: Entry) -> Desk
     ensures { result ≡ entered_of desk entry }
 {
-    let mut d = desk;
-    let line = std::num::wrapping_add_u64(d.lines, 1);
-    d.lines = line;
+    desk.lines = desk.lines.wrapping_add(1);
+    desk.first = desk.first && matches!(entry, Entry::Blank);
     match entry {
-        Entry::Blank => d,
-        Entry::Heading => {
-            d.first = false;
-            d
-        }
-        Entry::Row { serial, node } => {
-            let row = Row {
-                serial: serial,
-                node: node,
-            };
-            d.first = false;
-            with_row(d, row, line)
-        }
-        Entry::Malformed => {
-            if d.malformed == 0 {
-                d.malformed = line;
-            }
-            d.first = false;
-            d
-        }
+        Entry::Blank | Entry::Heading => {}
+        Entry::Row { serial, node } => desk.add(Row { serial, node }),
+        Entry::Malformed => desk.malformed = desk.malformed.or(Some(desk.lines)),
     }
+    desk
 }
 
 // One line more.
@@ -130,83 +160,7 @@ fn entered(desk: Desk, entry: Entry) -> Desk
 pub(crate) fn noted(d: Desk, text: &[u8]) -> Desk
     ensures { result ≡ noted_of d text.now }
 {
-    let entry = form_text::entry(text, d.lines == 0, d.first);
-    entered(d, entry)
-}
-
-// The line of a row.
-fn line_of(places: [u64; 127], row: usize) -> u64
-    ensures { result ≡ slice_index places row }
-{
-    if row < ROOM { places[row] } else { 0 }
-}
-
-// A row.
-fn row_of(rows: [Row; 127], row: usize) -> Row
-    ensures { result ≡ slice_index_or rows row no_row }
-{
-    if row < ROOM {
-        rows[row]
-    } else {
-        Row { serial: 0, node: 0 }
-    }
-}
-
-// What is told of a row that repeats an earlier one in the column.
-fn repeated(
-    rows: [Row; 127],
-    places: [u64; 127],
-    column: Column,
-    row: usize,
-    earlier: usize,
-    free: Free,
-) -> Notice
-    ensures { result ≡ repeated_by column (slice_index places row) (slice_index_or rows row no_row) (slice_index places earlier) free }
-{
-    let r = row_of(rows, row);
-    let line = line_of(places, row);
-    let before = line_of(places, earlier);
-    match column {
-        Column::Serial => Notice::SameSerial {
-            line: line,
-            serial: r.serial,
-            earlier: before,
-            free: free,
-        },
-        Column::Number => Notice::SameNumber {
-            line: line,
-            node: r.node,
-            earlier: before,
-            free: free,
-        },
-    }
-}
-
-// What is told of a refusal.
-fn refused(rows: [Row; 127], places: [u64; 127], why: Refusal) -> Notice
-    ensures { result ≡ refused_by (λ i. slice_index places i) (λ i. get_or rows i no_row) why }
-{
-    match why {
-        Refusal::Outside(row) => {
-            let r = row_of(rows, row);
-            Notice::Outside {
-                line: line_of(places, row),
-                node: r.node,
-            }
-        }
-        Refusal::TooMany => Notice::TooMany,
-    }
-}
-
-// What is told of so many rows, by the answer to them.
-fn told(rows: [Row; 127], places: [u64; 127], count: usize, free: Free, answer: Answer) -> Notice
-    ensures { result ≡ told_by (λ i. slice_index places i) (λ i. get_or rows i no_row) count free answer }
-{
-    match answer {
-        Answer::AllDiffer => Notice::Accepted(count),
-        Answer::Repeats(column, row, earlier) => repeated(rows, places, column, row, earlier, free),
-        Answer::Refused(why) => refused(rows, places, why),
-    }
+    entered(d, form_text::entry(text, d.lines == 0, d.first))
 }
 
 // What the clerk is told: a malformed line goes before all else.
@@ -214,19 +168,8 @@ fn told(rows: [Row; 127], places: [u64; 127], count: usize, free: Free, answer: 
 pub(crate) fn said(d: Desk) -> Notice
     ensures { result ≡ said_of d }
 {
-    let line = d.malformed;
-    if line != 0 {
-        return Notice::Malformed(line);
+    match d.malformed {
+        Some(line) => Notice::Malformed(line),
+        None => d.told(map::lowest_free(d.numbers), form::check(d.form)),
     }
-    let form = d.form;
-    let answer = form::check(form);
-    let rows = form.rows;
-    let places = d.places;
-    told(
-        rows,
-        places,
-        form.count,
-        map::lowest_free(d.numbers),
-        answer,
-    )
 }

@@ -1,134 +1,81 @@
-// The form, read in pieces and taken apart into lines.
-ghost use Rattle.std.specs.Prelude.{◌≡◌, ◌≤◌, length};
+// The form, read in pieces and taken apart into lines. The functions here stand much alike in each program that reads lines: a library could take what
+// is done with a line only as a closure that it asks something of, and here no public function asks anything.
+ghost use Rattle.std.specs.Prelude.{◌≡◌};
 ghost use Rattle.text.specs.Reading.{ended_of, closed_of, read_of};
 ghost use Rattle.order.specs.Desk.{noted_of};
 ghost use Rattle.order.specs.Reading.{progress_of, room};
 
 use crate::desk::Desk;
-use crate::{answer, desk, failing};
+use crate::{answer, desk};
+use std::io;
 use std::io::Read;
 use std::process::ExitCode;
-use text::lines;
+use text::failing::Failure;
+use text::keeping::Kept;
 
 // As much of a line as its meaning needs: a longer one is malformed whatever it holds.
 const KEPT: usize = 4101;
 
-// How far the form is read: the desk, how much of the next line is kept, whether the form has ended, and whether it could not be read.
-#[derive(Clone, Copy)]
-struct Reading {
-    desk: Desk,
-    kept: usize,
-    ended: bool,
-    failed: bool,
-}
-
-// The end of a line.
-fn end(reading: Reading, line: &[u8]) -> Reading
-    requires { reading.kept ≤ length line.now }
-    ensures kept_value { result.kept ≡ 0 }
-    ensures line_value { progress_of result line.now ≡ ended_of noted_of (progress_of reading line.now) }
-{
-    let kept = reading.kept;
-    let d = desk::noted(reading.desk, &line[..kept]);
-    Reading {
-        desk: d,
-        kept: 0,
-        ended: reading.ended,
-        failed: reading.failed,
+impl Desk {
+    // The end of a line: what is kept of it is noted.
+    fn end(&mut self, line: &mut Kept<KEPT>)
+        ensures { progress_of self.new line.new ≡ ended_of noted_of (progress_of self.old line.old) }
+    {
+        *self = desk::noted(*self, &line.text[..line.count]);
+        line.clear();
     }
-}
 
-// The bytes of a piece: each newline ends a line.
-fn take_in(reading: Reading, line: &mut [u8], piece: &[u8]) -> Reading
-    requires { reading.kept ≤ length line.old }
-    ensures kept_in_bounds { result.kept ≤ length line.old }
-    ensures line_after { progress_of result line.new ≡ read_of noted_of (length line.old) (progress_of reading line.old) piece.now }
-{
-    let mut r = reading;
-    let mut i: usize = 0;
-    while i < piece.len() {
-        let t = lines::take_in(line, r.kept, piece, i);
-        r.kept = t.kept;
-        i = t.at;
-        if t.ended {
-            r = end(r, line);
+    // The bytes of a piece: each newline ends a line.
+    fn take_in(&mut self, line: &mut Kept<KEPT>, piece: &[u8])
+        ensures { progress_of self.new line.new ≡ read_of noted_of room (progress_of self.old line.old) piece.now }
+    {
+        let mut from = 0;
+        while let Some(next) = line.take_in(piece, from) {
+            self.end(line);
+            from = next;
         }
     }
-    r
-}
 
-// The end of the form: what is kept, if anything, is a last line without a newline.
-fn closed(reading: Reading, line: &[u8]) -> Reading
-    requires { reading.kept ≤ length line.now }
-    ensures kept_value { result.kept ≡ 0 }
-    ensures desk_value { result.desk ≡ closed_of noted_of (progress_of reading line.now) }
-{
-    let mut r = reading;
-    if 0 < r.kept {
-        r = end(r, line);
+    // The end of the form: what is kept, if anything, is a last line without a newline.
+    #[tactic(auto, unfolding(text::specs::Reading::closed_of))]
+    fn close(&mut self, line: &mut Kept<KEPT>)
+        ensures { self.new ≡ closed_of noted_of (progress_of self.old line.old) }
+    {
+        if !line.is_empty() {
+            self.end(line);
+        }
     }
-    r.ended = true;
-    r
 }
 
-// What one read brings.
-fn turn(
-    rt: &(impl Eprint + Alloc),
-    input: &mut impl Read,
-    reading: Reading,
-    line: &mut [u8],
-) -> Reading
-    requires { reading.kept ≤ length line.old }
-    ensures { result.kept ≤ length line.old }
-{
-    let mut r = reading;
+// The whole form. A proved loop has to end, and nothing says that the form does: the turns count up to a number that no run uses up.
+fn read(input: &mut impl Read) -> io::Result<Desk> {
+    let mut desk = desk::bare();
+    let mut line = Kept::new();
     let mut piece = [0u8; 4096];
-    match input.read(&mut piece) {
-        Ok(0) => closed(r, line),
-        Ok(n) => take_in(r, line, &piece[..n]),
-        Err(why) => {
-            failing::tell(rt, "standard input", why);
-            r.ended = true;
-            r.failed = true;
-            r
-        }
-    }
-}
-
-// A proved loop has to end, and nothing says that the form does: the turns count up to a number that no run uses up.
-fn read(rt: &(impl Eprint + Alloc), input: &mut impl Read, line: &mut [u8]) -> Reading
-    requires { room ≡ length line.old }
-{
-    let mut r = Reading {
-        desk: desk::bare(),
-        kept: 0,
-        ended: false,
-        failed: false,
-    };
     for _ in 0..u64::MAX {
-        r = turn(rt, input, r, line);
-        if r.ended {
+        let n = input.read(&mut piece)?;
+        if n == 0 {
+            desk.close(&mut line);
             break;
         }
+        desk.take_in(&mut line, &piece[..n]);
     }
-    r
-}
-
-// Room for what is kept of a line. Of its contents nothing is said, only how much it is.
-fn blank() -> [u8; KEPT]
-    ensures { room ≡ length result }
-{
-    [0; KEPT]
+    Ok(desk)
 }
 
 // A form that could not be read whole gets no answer.
-pub(crate) fn run(rt: &(impl Print + Eprint + Input + Alloc)) -> ExitCode {
-    let mut line = blank();
-    let mut input = rt.reader();
-    let r = read(rt, &mut input, &mut line);
-    if !r.failed && answer::say(rt, desk::said(r.desk)) {
-        ExitCode::SUCCESS
-    } else {
-        ExitCode::FAILURE
+pub(crate) fn run(rt: &(impl Print + Eprint + Input)) -> ExitCode {
+    match read(&mut rt.reader()) {
+        Ok(desk) => {
+            if answer::say(rt, desk::said(desk)) {
+                ExitCode::SUCCESS
+            } else {
+                ExitCode::FAILURE
+            }
+        }
+        Err(why) => {
+            let _ = eprintln!(rt; "{}", Failure::Input(why));
+            ExitCode::FAILURE
+        }
     }
 }

@@ -9,6 +9,7 @@ use borrow.Author.Tests.{lt-ltb, le-ltb, ltb-true, ltb-false}
 use lib.Dec.{ltb}
 use lib.ListN.{length, take}
 use lib.Seq.{get_or-take, length-take-le}
+use Rattle.std.proofs.lemmas.Bool.{not-false}
 use Rattle.head.proofs.Nodes.{node_within, node_may}
 use Rattle.order_form.specs.declared.row.Row.{Row}
 use Rattle.order_form.specs.declared.row.Column.TheVariants.{Number}
@@ -23,12 +24,8 @@ use Rattle.order_form.proofs.Places.{first_holds, first_before}
 use Rattle.order_form.proofs.Claims.{claims}
 
 -- ---- the rows' numbers, by the first row outside
-not-not : (b : Bool) → not b ≡ false → b ≡ true
-not-not true e = refl
-not-not false e = sym e
-
 pub inside_before : (rows : List Row) (i : ℕ) → i < first_of is_outside rows → IsNode (at Number rows i)
-inside_before rows i h = node_within _ (not-not _ (first_before is_outside rows i h))
+inside_before rows i h = node_within _ (not-false _ (first_before is_outside rows i h))
 
 pub outside_at : (rows : List Row) → first_of is_outside rows < length rows → IsNode (at Number rows (first_of is_outside rows)) → ⊥
 outside_at rows h n =

@@ -1,19 +1,18 @@
 -- A form to which rows were added one by one answers what the list of the rows does: it keeps the rows, as far as there is room, and counts them.
 -- Assumes nothing.
-use Prim.Native.Nat.{ℕ, suc, ◌+◌, ◌≤◌, ◌<◌, min}
-use mathlib.Core.Path.{◌≡◌, refl, sym, ◌∙◌, ap}
+use Prim.Native.Nat.{suc, ◌≤◌, ◌<◌, min}
+use mathlib.Core.Path.{◌≡◌, refl}
 use mathlib.Core.Bool.{Bool, true, false, cond}
 use mathlib.Core.List.{List, [], ◌∷◌, ◌++◌, append-nil}
-use native.Mathlib.Numerals.{add-one}
 use native.Mathlib.Omega.{arith}
 use borrow.Author.Tests.{lt-ltb, le-ltb, ltb-true, ltb-false}
 use lib.Dec.{ltb}
-use lib.ListN.{length, take, get_or, set}
-use lib.Seq.{take-suc, take_all, append_snoc}
+use lib.ListN.{length, set}
+use lib.Seq.{take_all, append_snoc}
 use Rattle.order_form.specs.declared.row.Row.{Row}
 use Rattle.order_form.specs.declared.form.Form.{Form}
 use Rattle.order_form.specs.Check.{most, answer_of}
-use Rattle.order_form.specs.Held.{no_row, blank_of, add_of, check_of, add_all}
+use Rattle.order_form.specs.Held.{blank_of, add_of, check_of, add_all}
 use Rattle.order_form.proofs.Kept.{Kept, none_kept, one_more, length_snoc}
 
 -- the form holds these rows: one more than there is room for stands for any number
@@ -68,16 +67,7 @@ added rows = go (ltb most (length rows)) refl
         let c : f.count ≡ length rows = omega (arith, (holds rows).count) in
         rw (c, e, (holds rows).are.front, take_all most rows h, e)
 
--- ---- rows added one by one, as far as they have come
+-- ---- one row after the others
 pub add_snoc : (f : Form) (xs : List Row) (r : Row) → add_all f (xs ++ (r ∷ [])) ≡ add_of (add_all f xs) r
 add_snoc f [] r = refl
 add_snoc f (x ∷ xs) r = add_snoc (add_of f x) xs r
-
-pub add_next : (f g : Form) (rows : List Row) (i : ℕ) → i < length rows → g ≡ add_all f (take i rows)
-    → add_of g (get_or rows i no_row) ≡ add_all f (take (i + 1) rows)
-add_next f g rows i h p =
-    ap (λ (x : Form). add_of x (get_or rows i no_row)) p
-    ∙ (sym (add_snoc f (take i rows) (get_or rows i no_row)) ∙ rw (add-one, take-suc rows i no_row h))
-
-pub add_done : (f g : Form) (rows : List Row) (i : ℕ) → length rows ≤ i → g ≡ add_all f (take i rows) → g ≡ add_all f rows
-add_done f g rows i h p = p ∙ ap (add_all f) (take_all i rows h)

@@ -1,8 +1,7 @@
-pub mod First
+pub mod Places
 pub mod Repeats
 pub mod Kept
 pub mod Held
-pub mod Places
 pub mod Claims
 pub mod Demands
 pub mod Only

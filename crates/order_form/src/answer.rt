@@ -5,6 +5,7 @@ ghost use Rattle.order_form.specs.Check.{refusal_of};
 use crate::row::Column;
 
 // Rows are counted from 0. `Repeats`: in that column the row named first has what the row named second, an earlier one, has.
+// Not a `Result`: its `Ok` would be either all differ or a repeat, an enum again.
 #[derive(Clone, Copy)]
 pub enum Answer {
     AllDiffer,
@@ -24,7 +25,7 @@ impl Refusal {
 
     pub const TOO_MANY: u32 = 8;
 
-    // The document's number.
+    // The document's number. `Outside` carries its row, so that no variant can be cast to its number.
     pub fn number(self) -> u32
         ensures { result ≡ refusal_of self }
     {

@@ -7,9 +7,10 @@ use crate::row::Row;
 use crate::search;
 
 // The most rows.
-const MOST: usize = 127;
+pub(crate) const MOST: usize = 127;
 
 // The first `count` are the form's rows. A count of more than 127 stands for any number of rows above 127, of which the first 127 are kept.
+// The rows are an array, not a `Vec`: no library allocates.
 #[derive(Clone, Copy)]
 pub struct Form {
     pub rows: [Row; 127],
@@ -21,38 +22,33 @@ pub struct Form {
 pub fn blank() -> Form
     ensures { result ≡ blank_of }
 {
-    let none = Row { serial: 0, node: 0 };
     Form {
-        rows: [none; 127],
+        rows: [Row { serial: 0, node: 0 }; 127],
         count: 0,
     }
 }
 
 // One row more.
 #[tactic(auto, unfolding(crate::specs::Held::add_of))]
-pub fn add(form: Form, row: Row) -> Form
+pub fn add(mut form: Form, row: Row) -> Form
     ensures { result ≡ add_of form row }
 {
-    let mut f = form;
-    let n = f.count;
-    if n < MOST {
-        f.rows[n] = row;
-        f.count = n + 1;
-        return f;
+    if form.count < MOST {
+        form.rows[form.count] = row;
+        form.count += 1;
+    } else {
+        form.count = MOST + 1;
     }
-    f.count = MOST + 1;
-    f
+    form
 }
 
-// Refusal 8 goes before all else.
+// The answer to the rows that it holds: a count that no array holds is refused, as 8, before all else.
 #[tactic(auto, unfolding(crate::specs::Held::check_of))]
 pub fn check(form: Form) -> Answer
     ensures { result ≡ check_of form }
 {
-    let n = form.count;
-    if MOST < n {
-        return Answer::Refused(Refusal::TooMany);
+    match form.rows.get(..form.count) {
+        Some(rows) => search::answer(rows),
+        None => Answer::Refused(Refusal::TooMany),
     }
-    let rows = form.rows;
-    search::answer(rows, n)
 }

@@ -12,15 +12,9 @@ ghost use Rattle.order_form.specs.Check.{answer_of};
 use answer::Answer;
 use row::Row;
 
-// The check of rows that the caller lends. It is the only function that touches lent rows: they are copied, one by one, into a form.
+// The check of rows that the caller lends.
 pub fn check_rows(rows: &[Row]) -> Answer
     ensures { result ≡ answer_of rows.now }
 {
-    let mut f = form::blank();
-    let mut i: usize = 0;
-    while i < rows.len() {
-        f = form::add(f, rows[i]);
-        i = i + 1;
-    }
-    form::check(f)
+    search::answer(rows)
 }

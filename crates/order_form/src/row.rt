@@ -17,12 +17,14 @@ pub enum Column {
     Number,
 }
 
-// What the row has in the column.
-pub(crate) fn value(row: Row, column: Column) -> u32
-    ensures { result ≡ value_of column row }
-{
-    match column {
-        Column::Serial => row.serial,
-        Column::Number => row.node,
+impl Row {
+    // What the row has in the column.
+    pub(crate) fn value(self, column: Column) -> u32
+        ensures { result ≡ value_of column self }
+    {
+        match column {
+            Column::Serial => self.serial,
+            Column::Number => self.node,
+        }
     }
 }

@@ -1,71 +1,51 @@
-// The search through the first rows of a form, by value.
-ghost use Rattle.std.specs.Prelude.{◌≡◌, [], ◌≤◌, take};
-ghost use Rattle.order_form.specs.Rows.{first_of, has, is_outside};
+// The search through the rows of a form.
+ghost use Rattle.std.specs.Prelude.{◌≡◌, [], position};
+ghost use Rattle.order_form.specs.Rows.{has, is_outside};
 ghost use Rattle.order_form.specs.Check.{repeat_from, answer_of};
 
 use crate::answer::{Answer, Refusal};
-use crate::row;
+use crate::form::MOST;
 use crate::row::{Column, Row};
 
-// The first of the first n rows that has `value` in the column; n where none has.
-fn place(rows: [Row; 127], n: usize, column: Column, value: u32) -> usize
-    requires { n ≤ 127 }
-    ensures { result ≡ first_of (has column value) (take n rows) }
+// The first of the rows that has `value` in the column.
+fn place(rows: &[Row], column: Column, value: u32) -> Option<usize>
+    ensures { result ≡ position (has column value) rows.now }
 {
-    let mut i: usize = 0;
-    while i < n {
-        if row::value(rows[i], column) == value {
-            return i;
-        }
-        i += 1;
-    }
-    n
+    rows.iter().position(|r| r.value(column) == value)
 }
 
-// The first of the first n rows whose node number is not 1..127; n where all are.
-fn outside(rows: [Row; 127], n: usize) -> usize
-    requires { n ≤ 127 }
-    ensures { result ≡ first_of is_outside (take n rows) }
+// The first of the rows whose node number is not 1..127.
+fn outside(rows: &[Row]) -> Option<usize>
+    ensures { result ≡ position is_outside rows.now }
 {
-    let mut i: usize = 0;
-    while i < n {
-        if !head::calls::node_fits(rows[i].node) {
-            return i;
-        }
-        i += 1;
-    }
-    n
+    rows.iter().position(|r| !head::calls::node_fits(r.node))
 }
 
-// The first of the first n rows that repeats an earlier one: the serial is looked at before the number.
-fn first_repeat(rows: [Row; 127], n: usize) -> Answer
-    requires { n ≤ 127 }
-    ensures { result ≡ repeat_from [] (take n rows) }
+// The first of the rows that repeats an earlier one: the serial is looked at before the number.
+fn first_repeat(rows: &[Row]) -> Answer
+    ensures { result ≡ repeat_from [] rows.now }
 {
-    let mut k: usize = 0;
-    while k < n {
-        let r = rows[k];
-        let serial = place(rows, k, Column::Serial, r.serial);
-        if serial < k {
-            return Answer::Repeats(Column::Serial, k, serial);
+    for (k, r) in rows.iter().enumerate() {
+        let before = &rows[..k];
+        if let Some(earlier) = place(before, Column::Serial, r.serial) {
+            return Answer::Repeats(Column::Serial, k, earlier);
         }
-        let number = place(rows, k, Column::Number, r.node);
-        if number < k {
-            return Answer::Repeats(Column::Number, k, number);
+        if let Some(earlier) = place(before, Column::Number, r.node) {
+            return Answer::Repeats(Column::Number, k, earlier);
         }
-        k += 1;
     }
     Answer::AllDiffer
 }
 
-// The answer to a form of these n rows: 7 goes before any search.
-pub(crate) fn answer(rows: [Row; 127], n: usize) -> Answer
-    requires { n ≤ 127 }
-    ensures { result ≡ answer_of (take n rows) }
+// The answer to these rows: 8 goes before 7, and 7 before any search.
+pub(crate) fn answer(rows: &[Row]) -> Answer
+    ensures { result ≡ answer_of rows.now }
 {
-    let row = outside(rows, n);
-    if row < n {
-        return Answer::Refused(Refusal::Outside(row));
+    if MOST < rows.len() {
+        return Answer::Refused(Refusal::TooMany);
     }
-    first_repeat(rows, n)
+    match outside(rows) {
+        Some(row) => Answer::Refused(Refusal::Outside(row)),
+        None => first_repeat(rows),
+    }
 }

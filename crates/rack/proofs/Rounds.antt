@@ -1,33 +1,34 @@
 -- A rack is its telegrams: each comes to one reply that is laid, to one collision, or to neither, and the line fits after it. So the replies need no
 -- more room than the telegrams.
 -- Assumes nothing.
+use Rattle.std.specs.Prelude.{Ok, Err, Result, is_some}
+use Rattle.std.specs.Simd.{first_chunks}
 use Prim.Native.Nat.{ℕ, zero, suc, ◌+◌, ◌*◌, ◌/◌, ◌%◌, ◌≤◌, ◌<◌}
 use mathlib.Core.Path.{◌≡◌, refl, ◌∙◌}
 use mathlib.Core.Bool.{Bool, true, false, cond}
-use mathlib.Core.List.{List, [], ◌∷◌, ◌++◌, append-nil}
+use mathlib.Core.List.{List, [], ◌∷◌, ◌++◌, map, append-nil}
 use native.Mathlib.Omega.{arith}
 use native.Mathlib.Numerals.{add-one}
-use lib.ListN.{length, drop, get_or, replicate, length-append, drop_of_length-le}
-use lib.Seq.{drop-cons}
+use lib.ListN.{length, take, drop, get_or, replicate, length-append, drop_of_length-le}
+use lib.Seq.{drop-cons, drop-drop}
 use Rattle.state.specs.declared.parts.Head.{Head}
 use Rattle.state.specs.Wellformed.{wellformed_of}
 use Rattle.state.proofs.Laws as state
 use Rattle.state.specs.With.{with_ear}
 use Rattle.effects.specs.Restart.{empty_ear}
 use Rattle.effects.proofs.Keeps.{empty_ear_fits}
-use Rattle.head.specs.declared.calls.Heard as said
-use Rattle.head.specs.declared.calls.Heard.TheVariants as heard
 use Rattle.head.specs.Hear.{step_of}
 use Rattle.head.specs.Calls.{laid_on_of}
 use Rattle.head.proofs.Passes.{step_ten}
 use Rattle.line.specs.declared.calls.Line.{Line}
-use Rattle.line.specs.Round.{replies_of, replies_by}
+use Rattle.line.specs.Round.{replies_of, replies_by, last_or}
 use Rattle.line.specs.Calls.{fits_of, laid_by_of, replies_at, byte_of, byte_space_of}
-use Rattle.line.proofs.Laws.{last_or}
+use Rattle.line.proofs.Laws.{each_map}
 use Rattle.line.proofs.Theorems.{Kept, unmoved, each_kept, byte_keeps}
 use Rattle.rack.specs.Rack.{dropped_of, Fed, drawing, fed_of, ten_at}
 use Rattle.rack.proofs.Filled.{Tens}
 use Rattle.rack.proofs.Whole.{AllEmpty, all_empty, told_empty, drew, told, told_line, ten_told}
+use Rattle.head.specs.declared.refusal.Refusal.{Refusal}
 
 -- ---- what so many replies came to
 module _ (f : Fed) where
@@ -53,11 +54,11 @@ module _ (f : Fed) where
   drew_few (r ∷ (q ∷ rs)) = omega arith
 
 -- what a byte drew does not change the line
-pub drawing_line : (h : said.Heard) (ten : List ℕ) (f : Fed) → (drawing h ten f).line ≡ f.line
-drawing_line (heard.Replies zero) ten f = refl
-drawing_line (heard.Replies (suc zero)) ten f = refl
-drawing_line (heard.Replies (suc (suc n))) ten f = refl
-drawing_line (heard.Refused why) ten f = refl
+pub drawing_line : (h : Result ℕ Refusal) (ten : List ℕ) (f : Fed) → (drawing h ten f).line ≡ f.line
+drawing_line (Ok zero) ten f = refl
+drawing_line (Ok (suc zero)) ten f = refl
+drawing_line (Ok (suc (suc n))) ten f = refl
+drawing_line (Err why) ten f = refl
 
 -- ---- the telegram at a place, and the bytes after it
 module _ (bs : List ℕ) (j : ℕ) where
@@ -68,6 +69,15 @@ module _ (bs : List ℕ) (j : ℕ) where
   drop_ten p =
       rw (drop-cons bs j 0 (omega arith), ← add-one j)
       (rw (next 1 (omega arith), next 2 (omega arith), next 3 (omega arith), next 4 (omega arith), next 5 (omega arith), next 6 (omega arith), next 7 (omega arith), next 8 (omega arith), next 9 (omega arith)))
+
+-- telegram t of whole telegrams
+pub chunk_at : (m t : ℕ) (bs d : List ℕ) → t < m → 10 * m ≤ length bs → get_or (first_chunks 10 m bs) t d ≡ ten_at bs (10 * t)
+chunk_at m t bs d p q = go m t bs p ∙ rw (drop_ten bs (10 * t) (omega arith))
+  where
+    go : (m t : ℕ) (bs : List ℕ) → t < m → get_or (first_chunks 10 m bs) t d ≡ take 10 (drop (10 * t) bs)
+    go zero t bs p = absurd (omega arith)
+    go (suc m) zero bs p = refl
+    go (suc m) (suc t) bs p = let e : 10 * suc t ≡ 10 + 10 * t = omega arith in go m t (drop 10 bs) (omega arith) ∙ rw (drop-drop, e)
 
 -- ---- telegram t of a rack, fed to a line that fits and of which no head has gathered a byte
 pub record Ready (l : Line) : Type 0 where
@@ -106,7 +116,7 @@ module _ (bytes : List ℕ) (at : ℕ) where
   after_ready zero t l r e = rw (round_last l t (omega arith)) r
   after_ready (suc m) t l r e =
       let w = round l t r (omega arith) in
-      rw (w.0, drawing_line (heard.Replies (length (replies_by (told (here t) at) l.count l.heads))) _ (left (told_line l (here t) at) (t + 1)))
+      rw (w.0, drawing_line (Ok (length (replies_by (told (here t) at) l.count l.heads))) _ (left (told_line l (here t) at) (t + 1)))
       (after_ready m (t + 1) (told_line l (here t) at) w.1 (omega arith))
 
 -- ---- the line whose heads have dropped their bytes
@@ -119,6 +129,11 @@ module _ (l : Line) (at : ℕ) where
   pub dropped_keeps : Kept l (dropped_of l at)
   unfolding dropped_of
   dropped_keeps = each_kept l (λ h. with_ear h (empty_ear at)) (deaf_fits at) (λ h. refl)
+
+  -- as the heads below the count drop them
+  pub dropped_part : record { heads = map (λ h. with_ear h (empty_ear at)) (take l.count l.heads) ++ drop l.count l.heads; count = l.count } ≡ dropped_of l at
+  unfolding dropped_of
+  dropped_part = rw each_map
 
   pub dropped_ready : fits_of l ≡ true → Ready (dropped_of l at)
   unfolding dropped_of
@@ -154,7 +169,7 @@ lone false r rs e t = t
 replies_ten : (b at n : ℕ) (hs : List Head) → Tens (replies_of n hs b at)
 replies_ten b at zero hs = tt
 replies_ten b at (suc n) [] = tt
-replies_ten b at (suc n) (h ∷ hs) = lone (step_of h b at).replied _ _ (step_ten h b at) (replies_ten b at n hs)
+replies_ten b at (suc n) (h ∷ hs) = lone (is_some (step_of h b at).reply) _ _ (step_ten h b at) (replies_ten b at n hs)
 
 laid_ten : (rs : List (List ℕ)) → Tens rs → length (laid_by_of rs (replicate 10 0)) ≡ 10
 unfolding laid_on_of
@@ -168,11 +183,11 @@ reply_is_ten l b at =
     elim (fits_of l) as (λ x. length (cond x (laid_by_of (replies_at l b at) (replicate 10 0)) (replicate 10 0)) ≡ 10)
     [ true ↦ laid_ten (replies_at l b at) (replies_ten b at l.count l.heads) | false ↦ refl ]
 
-drawing_tens : (h : said.Heard) (ten : List ℕ) (f : Fed) → length ten ≡ 10 → Tens f.laid → Tens (drawing h ten f).laid
-drawing_tens (heard.Replies zero) ten f e t = t
-drawing_tens (heard.Replies (suc zero)) ten f e t = (e, t)
-drawing_tens (heard.Replies (suc (suc n))) ten f e t = t
-drawing_tens (heard.Refused why) ten f e t = t
+drawing_tens : (h : Result ℕ Refusal) (ten : List ℕ) (f : Fed) → length ten ≡ 10 → Tens f.laid → Tens (drawing h ten f).laid
+drawing_tens (Ok zero) ten f e t = t
+drawing_tens (Ok (suc zero)) ten f e t = (e, t)
+drawing_tens (Ok (suc (suc n))) ten f e t = t
+drawing_tens (Err why) ten f e t = t
 
 pub tens : (bs : List ℕ) (l : Line) (at : ℕ) → Tens (fed_of l bs at).laid
 unfolding fed_of

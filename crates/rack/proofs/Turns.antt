@@ -1,5 +1,6 @@
 -- The loop over the telegrams of a rack: what is left of them leads from where the loop stands to the same end.
 -- Assumes nothing.
+use Rattle.std.specs.Prelude.{Ok}
 use Prim.Native.Nat.{ℕ, suc, ◌+◌, ◌*◌, ◌<◌, ◌≤◌}
 use mathlib.Core.Path.{◌≡◌, refl, sym, ◌∙◌, ap}
 use mathlib.Core.List.{List}
@@ -8,9 +9,8 @@ use native.Mathlib.Omega.{arith}
 use lib.ListN.{length}
 use Rattle.line.specs.declared.calls.Line.{Line}
 use Rattle.line.specs.declared.round.Replies.{Replies}
-use Rattle.line.specs.Round.{replies_by}
-use Rattle.line.proofs.Laws.{each_length, Heard}
-use Rattle.rack.specs.declared.Answer.TheVariants as answer
+use Rattle.line.specs.Round.{replies_by, tally}
+use Rattle.line.proofs.Laws.{each_length}
 use Rattle.rack.specs.declared.Racked.{Racked}
 use Rattle.rack.specs.Rack.{Fed, fed_of, laid_at, laid_from, racked}
 use Rattle.rack.proofs.Whole.{drew, told, told_line}
@@ -18,7 +18,7 @@ use Rattle.rack.proofs.Rounds.{drew_none, drew_one, drew_many, Ready, left, here
 
 -- the end of the call, from so many replies laid and collisions and from what the telegrams left come to
 abbrev pub onward : ℕ → ℕ → Fed → Racked
-onward replies collisions f = record { line = f.line; answer = answer.Laid (record { replies = replies + length f.laid; collisions = collisions + f.collisions }) }
+onward replies collisions f = record { line = f.line; answer = Ok (record { replies = replies + length f.laid; collisions = collisions + f.collisions }) }
 
 module _ (bytes : List ℕ) (at : ℕ) where
   -- from the line l and the space s₀, t telegrams later
@@ -37,22 +37,17 @@ module _ (bytes : List ℕ) (at : ℕ) where
 
   -- every head was told telegram t
   module _ {l : Line} {s₀ : List ℕ} {k : Line} {t replies collisions : ℕ} {s : List ℕ} (g : Going l s₀ k t replies collisions s)
-      (p : 10 * t + 10 ≤ length bytes) {n : Line} {r : Replies} (h : Heard (told (here bytes at t) at) k k.count n r) where
-    abbrev rs : List (List ℕ)
+      (p : 10 * t + 10 ≤ length bytes) {n : Line} (heard : n ≡ told_line k (here bytes at t) at)
+      {r : Replies} (drawn : r ≡ tally (replies_by (told (here bytes at t) at) k.count k.heads)) where
+    abbrev pub rs : List (List ℕ)
     rs = replies_by (told (here bytes at t) at) k.count k.heads
-
-    same_line : n ≡ told_line k (here bytes at t) at
-    same_line = rw (← h.heads, ← h.count)
 
     -- what is left comes to what the replies and the telegrams after it come to
     on : (left bytes at k t ≡ drew rs (left bytes at n (t + 1))) × Ready n
-    on = rw same_line (round bytes at k t g.ready p)
+    on = rw heard (round bytes at k t g.ready p)
 
     counted : r.count ≡ length rs
-    counted = ap (λ (x : Replies). x.count) h.replies
-
-    wide : length n.heads ≡ length l.heads
-    wide = ap length h.heads ∙ each_length _ k.count k.heads ∙ g.places
+    counted = ap (λ (x : Replies). x.count) drawn
 
     -- so many then, with the space after it
     going : (replies' collisions' : ℕ) (s' : List ℕ) → (replies' ≤ t + 1) × (collisions' ≤ t + 1)
@@ -62,8 +57,8 @@ module _ (bytes : List ℕ) (at : ℕ) where
         → Going l s₀ n (t + 1) replies' collisions' s'
     going replies' collisions' s' few said laid room = record {
       ready = on.1;
-      count = h.count ∙ g.count;
-      places = wide;
+      count = ap (λ (x : Line). x.count) heard ∙ g.count;
+      places = ap (λ (x : Line). length x.heads) heard ∙ each_length _ k.count k.heads ∙ g.places;
       few = few;
       said = said ∙ g.said;
       laid = laid ∙ g.laid;
@@ -78,7 +73,7 @@ module _ (bytes : List ℕ) (at : ℕ) where
         let d = on.0 ∙ drew_one f rs (sym counted ∙ e) in
         let a : replies + 1 + length f.laid ≡ replies + suc (length f.laid) = omega arith in
         let b : 10 * (replies + 1) ≡ 10 * replies + 10 = omega arith in
-        going (replies + 1) collisions s' (omega (arith, g.few.0), omega (arith, g.few.1)) (rw (d, a)) (rw (d, b, laid, h.replies)) room
+        going (replies + 1) collisions s' (omega (arith, g.few.0), omega (arith, g.few.1)) (rw (d, a)) (rw (d, b, laid, drawn)) room
 
     -- none
     pub going_none : r.count ≡ 0 → Going l s₀ n (t + 1) replies collisions s
@@ -97,7 +92,7 @@ module _ (bytes : List ℕ) (at : ℕ) where
 
   -- after the last
   pub going_end : {l : Line} {s₀ : List ℕ} {k : Line} {t replies collisions : ℕ} {s : List ℕ} → Going l s₀ k t replies collisions s → length bytes ≤ 10 * t
-      → (record { line = k; answer = answer.Laid (record { replies = replies; collisions = collisions }) } ≡ racked (fed_of l bytes at)) × (s ≡ laid_from (fed_of l bytes at).laid 0 s₀)
+      → (record { line = k; answer = Ok (record { replies = replies; collisions = collisions }) } ≡ racked (fed_of l bytes at)) × (s ≡ laid_from (fed_of l bytes at).laid 0 s₀)
   unfolding laid_from
   going_end {l} {s₀} {k} {t} {replies} {collisions} {s} g p =
       let a : replies + 0 ≡ replies = omega arith in

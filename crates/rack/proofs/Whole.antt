@@ -1,6 +1,7 @@
 -- Ten bytes at one time, put to a line of which no head has gathered any, are one telegram that every head is told: nine draw nothing, and with the tenth
 -- the heads and the replies are those of `tell_of`. So replies come at tenth bytes alone.
 -- Assumes nothing.
+use Rattle.std.specs.Prelude.{Ok}
 use Prim.Native.Nat.{ℕ, zero, suc, ◌+◌, ◌-◌}
 use mathlib.Core.Path.{◌≡◌, refl, sym, ap, ◌∙◌}
 use mathlib.Core.Bool.{true, false, cond}
@@ -14,7 +15,6 @@ use Rattle.state.specs.declared.parts.Head.{Head}
 use Rattle.state.specs.declared.parts.Ear.{Ear}
 use Rattle.state.specs.With.{with_ear}
 use Rattle.effects.specs.Restart.{empty_ear}
-use Rattle.head.specs.declared.calls.Heard.TheVariants as heard
 use Rattle.head.specs.declared.hear.Stepped.{Stepped}
 use Rattle.head.specs.Hear.{elapsed_of, kept_ear, one_more_of, gathered_of, standing_of, restarts_of, tell_of, step_of}
 use Rattle.head.proofs.Again.{told_ear}
@@ -102,7 +102,7 @@ blank = replicate 10 0
 
 -- what a byte came to that drew these replies, and the bytes after it
 abbrev pub drew : List (List ℕ) → Fed → Fed
-drew rs f = drawing (heard.Replies (length rs)) (laid_by_of rs blank) f
+drew rs f = drawing (Ok (length rs)) (laid_by_of rs blank) f
 
 module _ (l : Line) (b : ℕ) (bs : List ℕ) (at : ℕ) (f : fits_of l ≡ true) where
   fed_on : {k : Line} {rs : List (List ℕ)} → heard_by l b at ≡ k → replies_at l b at ≡ rs → (fed_of l (b ∷ bs) at ≡ drew rs (fed_of k bs at)) × (fits_of k ≡ true)

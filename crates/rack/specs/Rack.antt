@@ -2,20 +2,17 @@
 -- a time, all at the given time, each by the line's own byte call with ten bytes of space of its own. A byte that draws just one reply has it laid,
 -- after those before it; two or more are a collision, which lays nothing and is counted once.
 -- Assumes nothing.
-use Rattle.std.specs.Prelude.{ℕ, zero, suc, ◌+◌, ◌-◌, ◌%◌, Bool, ◌&&◌, List, [], ◌∷◌, ◌++◌, leb, eqb, length, take, drop, get_or, replicate}
+use Rattle.std.specs.Prelude.{ℕ, zero, suc, ◌+◌, ◌-◌, ◌%◌, Bool, ◌&&◌, List, [], ◌∷◌, ◌++◌, leb, eqb, length, take, drop, get_or, replicate, Ok, Err, Result}
 use Rattle.state.specs.declared.parts.Head.{Head}
 use Rattle.state.specs.declared.parts.Ear.{Ear}
 use Rattle.state.specs.With.{with_ear}
 use Rattle.effects.specs.Restart.{empty_ear}
 use Rattle.head.specs.declared.refusal.Refusal.{Refusal}
 use Rattle.head.specs.declared.refusal.Refusal.TheVariants.{Malformed, RackLength, RackSpace}
-use Rattle.head.specs.declared.calls.Heard.{Heard}
-use Rattle.head.specs.declared.calls.Heard.TheVariants as heard
 use Rattle.head.specs.Calls.{Tests, guarded, laid_on_of}
 use Rattle.line.specs.declared.calls.Line.{Line}
 use Rattle.line.specs.Round.{each}
 use Rattle.line.specs.Calls.{fits_of, byte_of, byte_space_of}
-use Rattle.rack.specs.declared.Answer.TheVariants as answer
 use Rattle.rack.specs.declared.Racked.{Racked}
 
 -- not 15: a multiple of ten, and 640 at most
@@ -40,11 +37,11 @@ pub record Fed : Type 0 where
   pub collisions : ℕ
 
 -- what a byte call drew, and then what the bytes after it came to: just one reply is laid before theirs, two or more are one collision
-abbrev pub drawing : Heard → List ℕ → Fed → Fed
-drawing (heard.Replies zero) ten f = f
-drawing (heard.Replies (suc zero)) ten f = record { line = f.line; laid = ten ∷ f.laid; collisions = f.collisions }
-drawing (heard.Replies (suc (suc n))) ten f = record { line = f.line; laid = f.laid; collisions = suc f.collisions }
-drawing (heard.Refused why) ten f = f
+abbrev pub drawing : Result ℕ Refusal → List ℕ → Fed → Fed
+drawing (Ok zero) ten f = f
+drawing (Ok (suc zero)) ten f = record { line = f.line; laid = ten ∷ f.laid; collisions = f.collisions }
+drawing (Ok (suc (suc n))) ten f = record { line = f.line; laid = f.laid; collisions = suc f.collisions }
+drawing (Err why) ten f = f
 
 unfoldable pub fed_of : Line → List ℕ → ℕ → Fed
 fed_of l [] at = record { line = l; laid = []; collisions = 0 }
@@ -76,10 +73,10 @@ filled rs place space = take place space ++ (joined rs ++ drop (place + length (
 
 -- ---- the call: 20, then 15, then 16; refused, nothing is done
 abbrev pub refused_with : Line → Refusal → Racked
-refused_with l why = record { line = l; answer = answer.Refused why }
+refused_with l why = record { line = l; answer = Err why }
 
 abbrev pub racked : Fed → Racked
-racked f = record { line = f.line; answer = answer.Laid (record { replies = length f.laid; collisions = f.collisions }) }
+racked f = record { line = f.line; answer = Ok (record { replies = length f.laid; collisions = f.collisions }) }
 
 abbrev pub rack_tests : Line → ℕ → ℕ → ℕ → Tests
 rack_tests l n room place = (fits_of l, Malformed) ∷ (is_rack n, RackLength) ∷ (room_for n room place, RackSpace) ∷ []

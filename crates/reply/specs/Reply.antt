@@ -1,7 +1,7 @@
 -- What a head answers (document 01, "Ten bytes", "A telegram's way through the head", "What each one does"; D2h: document 02, request (ii)).
 -- All read data are those of the head before the telegram's effects; the status word is that of Word.
 -- Assumes nothing.
-use Rattle.std.specs.Prelude.{ℕ, ◌+◌, ◌-◌, ◌*◌, true, false, cond, not, ◌&&◌, List, eqb, replicate}
+use Rattle.std.specs.Prelude.{ℕ, ◌+◌, ◌-◌, ◌*◌, cond, not, ◌&&◌, List, eqb, Some, None, Option}
 use Rattle.wire.specs.declared.telegram.Telegram.{Telegram}
 use Rattle.wire.specs.Word.{byte0}
 use Rattle.wire.specs.Telegram.{bytes_of}
@@ -23,7 +23,6 @@ use Rattle.state.specs.Settings.{value_at, response_place}
 use Rattle.state.specs.Errors.{entry_of}
 use Rattle.state.specs.Position.{view_of}
 use Rattle.state.specs.Status.{status_of, difference_of}
-use Rattle.reply.specs.declared.Said.{Said}
 use Rattle.reply.specs.Word.{carried_of}
 
 -- 96h returns its number in the first data byte: 0 gives the count, n the nth oldest code in the low bytes
@@ -66,34 +65,34 @@ set_point_answer h value =
 unfoldable pub answer_of : ℕ → Head → ℕ → ℕ
 answer_of a h value = cond (eqb a 0xFF) (set_point_answer h value) value
 
-unfoldable pub silence : Said
-silence = record { replied = false; reply = replicate 10 0 }
+unfoldable pub silence : Option (List ℕ)
+silence = None
 
 -- a reply copies command, node and parameter, with the status word in the control word's place
 abbrev pub fields_said : Telegram → ℕ → ℕ → ℕ → Telegram
 fields_said t parameter word value =
     record { command = t.command; node = t.node; parameter = parameter; word = word; value = value }
 
-unfoldable pub said : Telegram → ℕ → ℕ → ℕ → Said
-said t parameter word value = record { replied = true; reply = bytes_of (fields_said t parameter word value) }
+unfoldable pub said : Telegram → ℕ → ℕ → ℕ → Option (List ℕ)
+said t parameter word value = Some (bytes_of (fields_said t parameter word value))
 
 -- an error reply has FDh as parameter and data 00 00 code2 code1
-unfoldable pub error_reply : Telegram → ℕ → Fault → Said
+unfoldable pub error_reply : Telegram → ℕ → Fault → Option (List ℕ)
 error_reply t word fault = said t 0xFD word (code_of fault)
 
 -- a read is answered with its data, a write with its answer, a broadcast never; nor is a number that is offered by D2h
-unfoldable pub value_reply : Judged → Head → ℕ → Said
+unfoldable pub value_reply : Judged → Head → ℕ → Option (List ℕ)
 value_reply j h word =
     cond (reads_of j.command) (said j.telegram j.telegram.parameter word (read_of j.kind h j.telegram.value))
     (cond (writes_of j.command && not (eqb j.telegram.parameter 0xD2)) (said j.telegram j.telegram.parameter word (answer_of j.telegram.parameter h j.telegram.value)) silence)
 
-abbrev pub reply_by : Verdict → Judged → Head → ℕ → Said
+abbrev pub reply_by : Verdict → Judged → Head → ℕ → Option (List ℕ)
 reply_by Obeyed j h word = value_reply j h word
 reply_by Silent j h word = silence
 reply_by (Refused fault) j h word = error_reply j.telegram word fault
 
 -- by the head before the telegram's effects and the head after them
-unfoldable pub reply_of : Judged → Head → Head → Said
+unfoldable pub reply_of : Judged → Head → Head → Option (List ℕ)
 reply_of j before after = reply_by j.verdict j before (carried_of j.deed before after)
 
 -- Auto-ID: what a head sends that adopts the number it was offered: a write's reply with node 31, parameter D2h and the new number as data

@@ -11,13 +11,10 @@ use state::status;
 fn keeps_old(d: Deed) -> bool
     ensures { result ≡ keeps_old d }
 {
-    match d {
-        Deed::Restart => true,
-        Deed::Aim1(_, _) => true,
-        Deed::Aim2(_, _) => true,
-        Deed::ClearStatic => true,
-        _ => false,
-    }
+    matches!(
+        d,
+        Deed::Restart | Deed::Aim1(_, _) | Deed::Aim2(_, _) | Deed::ClearStatic
+    )
 }
 
 #[tactic(auto, unfolding(crate::specs::Word::carried_of))]

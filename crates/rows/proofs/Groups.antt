@@ -1,6 +1,7 @@
 -- The groups of addresses and places: what the arms of the source's matches know, as the definitions say it. Each is one test over
 -- all numbers of a span, computed. And the laws: each address is in exactly one group, and the groups agree with the table.
 -- Assumes nothing.
+use Rattle.std.specs.Prelude.{Some}
 use mathlib.Core.Path.{◌≡◌, refl, sym, ◌∙◌, ap}
 use mathlib.Core.Bool.{Bool, true, false, cond, not, ◌&&◌, ◌||◌}
 use mathlib.Core.List.{List, [], ◌∷◌, map}
@@ -18,7 +19,6 @@ use Rattle.rows.specs.declared.kind.Shown.TheVariants.{Identification, Version, 
 use Rattle.rows.specs.declared.kind.Order.{Order}
 use Rattle.rows.specs.declared.kind.Order.TheVariants.{System, Calibration, Interlock, Freezing, Assignment}
 use Rattle.rows.specs.declared.table.Row.{Row}
-use Rattle.rows.specs.declared.table.Place.TheVariants.{At}
 use Rattle.rows.specs.Among.{among}
 use Rattle.rows.specs.Table.{address, rows, row_of, place_in, place_of, is_at}
 use Rattle.rows.specs.Access.{stored, set_points, read_only, write_only, access_of}
@@ -37,14 +37,6 @@ less_or_not a b = go (ltb a b) refl
 -- ---- the bus six
 abbrev bus_keys : List (List ℕ)
 bus_keys = (14 ∷ 38 ∷ []) ∷ []
-
-pub bus_first : (i : ℕ) → i < 4 → bus_of i ≡ true
-unfolding bus_of row_of rows
-bus_first i h = is_true _ (in_span bus_of 0 4 tt i (omega arith) h)
-
-pub bus_key : (i : ℕ) → OneOf (14 ∷ 38 ∷ []) i → bus_of i ≡ true
-unfolding bus_of row_of rows
-bus_key i h = is_true _ (in_list bus_of (14 ∷ 38 ∷ []) tt i h)
 
 pub bus_none : (i : ℕ) → NoneOf bus_keys i → 4 ≤ i → bus_of i ≡ false
 unfolding bus_of row_of rows
@@ -151,7 +143,7 @@ among_found (r ∷ rs) i a =
     rw (among_more (address r) (map address rs) a, eqb_turned a (address r)) (go (eqb (address r) a) (among_found rs (suc i) a))
   where
     go : (b : Bool) → among (map address rs) a ≡ is_at (place_in rs (suc i) a)
-        → (b || among (map address rs) a) ≡ is_at (cond b (At i) (place_in rs (suc i) a))
+        → (b || among (map address rs) a) ≡ is_at (cond b (Some i) (place_in rs (suc i) a))
     go true e = refl
     go false e = e
 

@@ -1,6 +1,7 @@
 -- What holds of the rows for any caller: places and addresses, values that lie in their rows, the limits of the node address and of
 -- the two signed parameters. What speaks of the 39 rows alone is one computed test over them.
 -- Assumes nothing.
+use Rattle.std.specs.Prelude.{Some}
 use mathlib.Core.Path.{◌≡◌, refl, sym, ◌∙◌}
 use mathlib.Core.Bool.{Bool, true, false, cond, true≢false}
 use mathlib.Core.List.{List, map}
@@ -12,7 +13,6 @@ use lib.ListN.{get_or, set}
 use lib.Signed.{lt_z}
 use borrow.Author.Tests.{ltb-true, ltb-false, le-ltb, lt-ltb, ne_eqb}
 use Rattle.signed.specs.Number.{number_of}
-use Rattle.rows.specs.declared.table.Place.TheVariants.{At}
 use Rattle.rows.specs.declared.range.Range.TheVariants.{Right, Low, High}
 use Rattle.rows.specs.Table.{address, delivery, rows, blank, row_of, place_of}
 use Rattle.rows.specs.Ranges.{is_signed_of, reading_of, unlisted_of, between_of, range_in, other_row_of, range_of, is_right, fits_in, all_right_of}
@@ -21,24 +21,24 @@ use Rattle.rows.proofs.Places.{found, same, same_only}
 use Rattle.rows.proofs.Fits.{each_in, set_in}
 
 -- ---- places and addresses
-pub place_below : (a : ℕ) {i : ℕ} → place_of a ≡ At i → i < 39
+pub place_below : (a : ℕ) {i : ℕ} → place_of a ≡ Some i → i < 39
 unfolding place_of rows
 place_below a e = (found blank rows 0 a e).1
 
-pub place_address : (a : ℕ) {i : ℕ} → place_of a ≡ At i → address (row_of i) ≡ a
+pub place_address : (a : ℕ) {i : ℕ} → place_of a ≡ Some i → address (row_of i) ≡ a
 unfolding place_of row_of
 place_address a {i} e = let n : i - 0 ≡ i = omega arith in rw n at (found blank rows 0 a e).2
 
-pub row_place : (i : ℕ) → i < 39 → place_of (address (row_of i)) ≡ At i
+pub row_place : (i : ℕ) → i < 39 → place_of (address (row_of i)) ≡ Some i
 unfolding place_of row_of rows
-row_place i h = same_only _ (At i) (in_span (λ k. same (place_of (address (row_of k))) (At k)) 0 39 tt i (omega arith) h)
+row_place i h = same_only _ (Some i) (in_span (λ k. same (place_of (address (row_of k))) (Some k)) 0 39 tt i (omega arith) h)
 
 pub row_below : (i : ℕ) → i < 39 → address (row_of i) < 256
 unfolding row_of rows
 row_below i h = ltb-true _ 256 (is_true _ (in_span (λ k. ltb (address (row_of k)) 256) 0 39 tt i (omega arith) h))
 
 -- ---- values that lie in their rows
-pub range_fits : (a w : ℕ) {i : ℕ} → place_of a ≡ At i → range_of a w ≡ Right → fits_in (row_of i) w ≡ true
+pub range_fits : (a w : ℕ) {i : ℕ} → place_of a ≡ Some i → range_of a w ≡ Right → fits_in (row_of i) w ≡ true
 unfolding range_of fits_in
 range_fits a w p h = rw (rw p at h)
 

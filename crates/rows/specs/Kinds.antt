@@ -1,8 +1,6 @@
 -- What stands behind each parameter address (document 01, "What each one does"; D2h, Auto-ID assignment: document 02, request (ii)).
 -- Assumes nothing.
-use Rattle.std.specs.Prelude.{ℕ, ◌-◌, cond, ◌&&◌, eqb, leb}
-use Rattle.rows.specs.declared.table.Place.{Place}
-use Rattle.rows.specs.declared.table.Place.TheVariants.{At, Nowhere}
+use Rattle.std.specs.Prelude.{ℕ, ◌-◌, cond, ◌&&◌, eqb, leb, Some, None, Option}
 use Rattle.rows.specs.declared.access.Access.{Access}
 use Rattle.rows.specs.declared.access.Access.TheVariants as access
 use Rattle.rows.specs.declared.kind.Kind.{Kind}
@@ -31,9 +29,9 @@ other_of a =
     (cond (eqb a 0xFE) (ReadOnly Position)
     (cond (eqb a 0xFF) SetPoint2 Unknown)))))))))))))))
 
-abbrev pub stored_or : Place → Kind → Kind
-stored_or (At i) other = Stored i
-stored_or Nowhere other = other
+abbrev pub stored_or : Option ℕ → Kind → Kind
+stored_or (Some i) other = Stored i
+stored_or None other = other
 
 unfoldable pub kind_of : ℕ → Kind
 kind_of a = stored_or (place_of a) (other_of a)

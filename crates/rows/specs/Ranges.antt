@@ -1,11 +1,9 @@
 -- Whether a value is right for its parameter (document 01, "Stored parameters" and check 7).
 -- Assumes nothing.
-use Rattle.std.specs.Prelude.{ℕ, zero, suc, ◌+◌, Bool, true, false, cond, ◌&&◌, List, [], ◌∷◌, eqb, ℤ, pos, get_or}
+use Rattle.std.specs.Prelude.{ℕ, zero, suc, ◌+◌, Bool, true, false, cond, ◌&&◌, List, [], ◌∷◌, eqb, ℤ, pos, get_or, Some, None, Option}
 use Rattle.std.specs.Int.Signed.{lt_z}
 use Rattle.signed.specs.Number.{minus, number_of}
 use Rattle.rows.specs.declared.table.Row.{Row}
-use Rattle.rows.specs.declared.table.Place.{Place}
-use Rattle.rows.specs.declared.table.Place.TheVariants.{At, Nowhere}
 use Rattle.rows.specs.declared.range.Range.{Range}
 use Rattle.rows.specs.declared.range.Range.TheVariants.{Right, Low, High, Between}
 use Rattle.rows.specs.Among.{among}
@@ -40,9 +38,9 @@ other_row_of a =
     (cond (eqb a 0xFF) (row 0xFF (minus 2147483648) (pos 2147483647) 0)
     (row a (pos 0) (pos 4294967295) 0))))))
 
-abbrev pub row_at : Place → ℕ → Row
-row_at (At i) a = row_of i
-row_at Nowhere a = other_row_of a
+abbrev pub row_at : Option ℕ → ℕ → Row
+row_at (Some i) a = row_of i
+row_at None a = other_row_of a
 
 unfoldable pub range_of : ℕ → ℕ → Range
 range_of a w = range_in (row_at (place_of a) a) w

@@ -1,11 +1,9 @@
 -- The 39 rows of limits and delivery values (document 01, "Stored parameters"; 28h up to 3 and 35h retired: document 02, requests (ix) and
 -- (xii)).
 -- Assumes nothing.
-use Rattle.std.specs.Prelude.{ℕ, suc, Bool, true, false, cond, List, [], ◌∷◌, eqb, ℤ, pos, get_or}
+use Rattle.std.specs.Prelude.{ℕ, suc, Bool, true, false, cond, List, [], ◌∷◌, eqb, ℤ, pos, get_or, Some, None, Option}
 use Rattle.signed.specs.Number.{minus}
 use Rattle.rows.specs.declared.table.Row.{Row}
-use Rattle.rows.specs.declared.table.Place.{Place}
-use Rattle.rows.specs.declared.table.Place.TheVariants.{At, Nowhere}
 
 -- one row: address, low, high, delivery value
 abbrev pub row : ℕ → ℤ → ℤ → ℕ → Row
@@ -75,14 +73,14 @@ unfoldable pub row_of : ℕ → Row
 row_of i = get_or rows i blank
 
 -- the place of the first row with the address, the first row's place being i
-abbrev pub place_in : List Row → ℕ → ℕ → Place
-place_in [] i a = Nowhere
-place_in (r ∷ rs) i a = cond (eqb (address r) a) (At i) (place_in rs (suc i) a)
+abbrev pub place_in : List Row → ℕ → ℕ → Option ℕ
+place_in [] i a = None
+place_in (r ∷ rs) i a = cond (eqb (address r) a) (Some i) (place_in rs (suc i) a)
 
-unfoldable pub place_of : ℕ → Place
+unfoldable pub place_of : ℕ → Option ℕ
 place_of a = place_in rows 0 a
 
 -- there is one
-abbrev pub is_at : Place → Bool
-is_at (At i) = true
-is_at Nowhere = false
+abbrev pub is_at : Option ℕ → Bool
+is_at (Some i) = true
+is_at None = false

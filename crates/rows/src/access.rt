@@ -36,8 +36,5 @@ pub fn access_of(address: u8) -> Access
 pub fn broadcast(address: u8) -> bool
     ensures { result ≡ broadcast_of address }
 {
-    match address {
-        0xA0 | 0xA8 | 0xAA => true,
-        _ => false,
-    }
+    matches!(address, 0xA0 | 0xA8 | 0xAA)
 }

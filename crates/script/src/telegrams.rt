@@ -3,7 +3,7 @@ ghost use Rattle.std.specs.Prelude.{◌≡◌};
 ghost use Rattle.script.specs.Telegrams.{listed_of, entry_of};
 
 use crate::words;
-use crate::words::Kind;
+use crate::words::{Kind, Rest};
 use text::numbers;
 
 // How many bytes a telegram has.
@@ -35,7 +35,7 @@ fn listed(line: &[u8]) -> Entry
         Kind::Long => Entry::Malformed,
         Kind::Passed => Entry::Blank,
         Kind::Spoken(at) => {
-            if numbers::hex_bytes(words::sole(line, 0)) == TEN {
+            if numbers::hex_bytes(Rest { line, from: 0 }.sole()) == TEN {
                 Entry::Telegram(at)
             } else {
                 Entry::Malformed

@@ -1,7 +1,7 @@
 // A line's words, by the places where they start and end.
-ghost use Rattle.std.specs.Prelude.{◌≡◌, ◌||◌};
+ghost use Rattle.std.specs.Prelude.{◌≡◌};
 ghost use Rattle.text.specs.Lines.{bare_of};
-ghost use Rattle.script.specs.Words.{is_gap, same_of};
+ghost use Rattle.script.specs.Words.{is_gap};
 ghost use Rattle.script.specs.Kinds.{kind_of};
 ghost use Rattle.script.specs.Places.{start_of, end_of, words_at, first_of, after_of, sole_of};
 
@@ -30,67 +30,71 @@ pub(crate) fn bare(line: &[u8]) -> &[u8]
 fn gap(b: u8) -> bool
     ensures { result ≡ is_gap b }
 {
-    (b == b' ') | (b == b'\t')
+    matches!(b, b' ' | b'\t')
 }
 
-// Past the gaps at the place `from`.
-pub(crate) fn start(line: &[u8], from: usize) -> usize
-    ensures { result ≡ start_of line.now from }
-{
-    let mut i = from;
-    while i < line.len() {
-        if gap(line[i]) {
-            i += 1;
-        } else {
-            return i;
+// What is left of a line from a place on.
+#[derive(Clone, Copy)]
+pub(crate) struct Rest<'a> {
+    pub line: &'a [u8],
+    pub from: usize,
+}
+
+impl<'a> Rest<'a> {
+    // Past the gaps at its start.
+    pub(crate) fn start(self) -> usize
+        ensures { result ≡ start_of self.entry.line.now self.entry.from }
+    {
+        let rest = self.line.get(self.from..).unwrap_or(&[]);
+        self.from + rest.iter().position(|b| !gap(*b)).unwrap_or(rest.len())
+    }
+
+    // Past the word at its start.
+    fn end(self) -> usize
+        ensures { result ≡ end_of self.entry.line.now self.entry.from }
+    {
+        let rest = self.line.get(self.from..).unwrap_or(&[]);
+        self.from + rest.iter().position(|b| gap(*b)).unwrap_or(rest.len())
+    }
+
+    // What is left past its first word.
+    #[tactic(auto, unfolding(crate::specs::Places::after_of))]
+    pub(crate) fn after(self) -> Rest<'a>
+        ensures line { result.line ≡ self.entry.line }
+        ensures from { result.from ≡ after_of self.entry.line.now self.entry.from }
+    {
+        let word = Rest {
+            from: self.start(),
+            ..self
+        };
+        Rest {
+            from: word.end(),
+            ..self
         }
     }
-    i
-}
 
-// Past the word at the place `from`.
-pub(crate) fn end(line: &[u8], from: usize) -> usize
-    ensures { result ≡ end_of line.now from }
-{
-    let mut i = from;
-    while i < line.len() {
-        if gap(line[i]) {
-            return i;
+    // Its first word, or no characters where there is none: these say no number, so that who reads them needs no further case.
+    pub(crate) fn first(self) -> &'a [u8]
+        ensures { result.now ≡ first_of (words_at self.entry.line.now self.entry.from) }
+    {
+        let s = self.start();
+        if self.line.len() <= s {
+            return &[];
         }
-        i += 1;
+        let e = Rest { from: s, ..self }.end();
+        &self.line[s..e]
     }
-    i
-}
 
-// Past the first word from the place `from` on.
-#[tactic(auto, unfolding(crate::specs::Places::after_of))]
-pub(crate) fn after(line: &[u8], from: usize) -> usize
-    ensures { result ≡ after_of line.now from }
-{
-    end(line, start(line, from))
-}
-
-// The first word from the place `from` on, or no characters where there is none.
-pub(crate) fn first(line: &[u8], from: usize) -> &[u8]
-    ensures { result.now ≡ first_of (words_at line.now from) }
-{
-    let s = start(line, from);
-    if line.len() <= s {
-        return &line[0..0];
+    // Its only word, or no characters where there is none or more than one.
+    pub(crate) fn sole(self) -> &'a [u8]
+        ensures { result.now ≡ sole_of (words_at self.entry.line.now self.entry.from) }
+    {
+        let next = self.after();
+        if next.start() < self.line.len() {
+            return &[];
+        }
+        self.first()
     }
-    let e = end(line, s);
-    &line[s..e]
-}
-
-// The only word from the place `from` on, or no characters where there is none or more than one.
-pub(crate) fn sole(line: &[u8], from: usize) -> &[u8]
-    ensures { result.now ≡ sole_of (words_at line.now from) }
-{
-    let next = after(line, from);
-    if start(line, next) < line.len() {
-        return &line[0..0];
-    }
-    first(line, from)
 }
 
 // Which kind a line without newline and carriage return is. The length is looked at before any word.
@@ -101,7 +105,7 @@ pub(crate) fn kind_of(line: &[u8]) -> Kind
     if LONGEST < line.len() {
         return Kind::Long;
     }
-    let at = start(line, 0);
+    let at = Rest { line, from: 0 }.start();
     if line.len() <= at {
         return Kind::Passed;
     }
@@ -109,21 +113,4 @@ pub(crate) fn kind_of(line: &[u8]) -> Kind
         return Kind::Passed;
     }
     Kind::Spoken(at)
-}
-
-// Is the word that name, character by character.
-pub(crate) fn is(word: &[u8], name: &[u8]) -> bool
-    ensures { result ≡ same_of word.now name.now }
-{
-    if word.len() != name.len() {
-        return false;
-    }
-    let mut i = 0;
-    while i < word.len() {
-        if word[i] != name[i] {
-            return false;
-        }
-        i += 1;
-    }
-    true
 }

@@ -1,9 +1,9 @@
 -- A test of each number below n: what follows from it, and what it follows from.
 -- Assumes nothing.
 use Prim.Native.Nat.{ℕ, zero, suc, ◌<◌}
-use mathlib.Core.Path.{◌≡◌, refl}
+use mathlib.Core.Path.{◌≡◌, refl, sym}
 use mathlib.Core.Bool.{Bool, true, false, and-eq-true_iff}
-use mathlib.Core.Logic.{◌⊎◌, inl, inr, ⊎_elim}
+use mathlib.Core.Logic.{◌⊎◌, inl, inr, ⊎_elim, ◌↔◌}
 use native.Mathlib.Nat.{not-suc-le-zero}
 use native.Mathlib.Omega.{arith}
 use lib.Dec.{eqb}
@@ -28,3 +28,12 @@ each_at test (suc n) h i p =
 pub each_all : (test : ℕ → Bool) (n : ℕ) → ((i : ℕ) → i < n → test i ≡ true) → each test n ≡ true
 each_all test zero h = refl
 each_all test (suc n) h = rw (each_all test n (λ i p. h i (omega arith)), h n (omega arith))
+
+-- an answer that is true just where each number passes is that test
+pub each_answered : (test : ℕ → Bool) (n : ℕ) (answer : Bool) → ((answer ≡ true) ↔ ((i : ℕ) → i < n → test i ≡ true)) → answer ≡ each test n
+each_answered test n true h = sym (each_all test n (h.0 refl))
+each_answered test n false h = go (each test n) refl
+  where
+    go : (t : Bool) → each test n ≡ t → false ≡ t
+    go true e = h.1 (each_at test n e)
+    go false e = refl

@@ -1,8 +1,6 @@
 pub mod Each
-pub mod Shape
 pub mod Spelled
 pub mod Bytes
-pub mod Store
 pub mod Sheets
 pub mod Meant
 pub mod HandsOut

@@ -10,7 +10,7 @@ pub(crate) const MOST: u8 = 39;
 pub(crate) fn byte_at(sheet: &[u8], k: usize) -> u8
     ensures { result ≡ byte_of sheet.now k }
 {
-    if k < sheet.len() { sheet[k] } else { 0 }
+    sheet.get(k).copied().unwrap_or(0)
 }
 
 // The number of rows.
@@ -54,10 +54,7 @@ pub(crate) fn value_at(sheet: &[u8], i: u8) -> u32
 fn is_rising(sheet: &[u8], i: u8) -> bool
     ensures { result ≡ rises sheet.now i }
 {
-    if i == 0 {
-        return true;
-    }
-    address_at(sheet, i - 1) < address_at(sheet, i)
+    i == 0 || address_at(sheet, i - 1) < address_at(sheet, i)
 }
 
 // Row i of n stands as it must.
@@ -66,32 +63,22 @@ fn row_right(sheet: &[u8], n: u8, i: u8) -> bool
     ensures { result ≡ row_right sheet.now n i }
 {
     let p = body_at(sheet, i) as usize;
-    (p == 1 + 3 * (n as usize) + 4 * (i as usize)) & is_rising(sheet, i)
+    p == 1 + 3 * (n as usize) + 4 * (i as usize) && is_rising(sheet, i)
 }
 
 // All n rows do.
 fn rows_right(sheet: &[u8], n: u8) -> bool
     ensures { result ≡ each (row_right sheet.now n) n }
 {
-    let mut ok = true;
-    let mut i: u8 = 0;
-    while i < n {
-        ok = ok & row_right(sheet, n, i);
-        i += 1;
-    }
-    ok
+    (0..n).all(|i| row_right(sheet, n, i))
 }
 
 // Whether the bytes are a sheet.
+#[tactic(auto, unfolding(crate::specs::Format::well_formed_of))]
 pub fn well_formed(sheet: &[u8]) -> bool
     ensures { result ≡ well_formed_of sheet.now }
 {
     let n = count(sheet);
-    if n <= MOST {
-        // the sheet ends after the last body
-        if sheet.len() == 1 + 3 * (n as usize) + 4 * (n as usize) {
-            return rows_right(sheet, n);
-        }
-    }
-    false
+    // the sheet ends after the last body
+    n <= MOST && sheet.len() == 1 + 3 * (n as usize) + 4 * (n as usize) && rows_right(sheet, n)
 }

@@ -4,9 +4,8 @@ ghost use Rattle.sheet.specs.Each.{each};
 ghost use Rattle.sheet.specs.Loading.{meant_at, known_of, fitting_of, check_of, stored_rows, load_of};
 
 use crate::format;
-use crate::refusal::{Answer, Refusal};
+use crate::refusal::Refusal;
 use rows::range::Range;
-use rows::table::Place;
 use rows::{range, table};
 
 // 35h, which switched incremental measurement before that was retired.
@@ -18,10 +17,11 @@ fn meant(sheet: &[u8], i: u8) -> u32
     ensures { result ≡ meant_at sheet.now i }
 {
     let value = format::value_at(sheet, i);
-    if (format::address_at(sheet, i) == INCREMENTAL) & (value == 1) {
-        return 0;
+    if format::address_at(sheet, i) == INCREMENTAL && value == 1 {
+        0
+    } else {
+        value
     }
-    value
 }
 
 // The address of row i is among the 39.
@@ -29,10 +29,7 @@ fn meant(sheet: &[u8], i: u8) -> u32
 fn known(sheet: &[u8], i: u8) -> bool
     ensures { result ≡ known_of sheet.now i }
 {
-    match table::place_of(format::address_at(sheet, i)) {
-        Place::At(_) => true,
-        Place::Nowhere => false,
-    }
+    table::place_of(format::address_at(sheet, i)).is_some()
 }
 
 // What row i writes lies in the row of its address.
@@ -40,72 +37,52 @@ fn known(sheet: &[u8], i: u8) -> bool
 fn fitting(sheet: &[u8], i: u8) -> bool
     ensures { result ≡ fitting_of sheet.now i }
 {
-    match range::range_of(format::address_at(sheet, i), meant(sheet, i)) {
-        Range::Right => true,
-        Range::Low => false,
-        Range::High => false,
-        Range::Between => false,
-    }
+    matches!(
+        range::range_of(format::address_at(sheet, i), meant(sheet, i)),
+        Range::Right
+    )
 }
 
 // Of the first n rows.
 fn all_known(sheet: &[u8], n: u8) -> bool
     ensures { result ≡ each (known_of sheet.now) n }
 {
-    let mut ok = true;
-    let mut i: u8 = 0;
-    while i < n {
-        ok = ok & known(sheet, i);
-        i += 1;
-    }
-    ok
+    (0..n).all(|i| known(sheet, i))
 }
 
 fn all_fitting(sheet: &[u8], n: u8) -> bool
     ensures { result ≡ each (fitting_of sheet.now) n }
 {
-    let mut ok = true;
-    let mut i: u8 = 0;
-    while i < n {
-        ok = ok & fitting(sheet, i);
-        i += 1;
-    }
-    ok
+    (0..n).all(|i| fitting(sheet, i))
 }
 
 // Whether the sheet may be loaded: 11, 12 and 13, in this order.
 #[tactic(auto, unfolding(crate::specs::Loading::check_of))]
-pub fn check(sheet: &[u8]) -> Answer
+pub fn check(sheet: &[u8]) -> Result<(), Refusal>
     ensures { result ≡ check_of sheet.now }
 {
-    if format::well_formed(sheet) {
-        let n = format::count(sheet);
-        if all_known(sheet, n) {
-            if all_fitting(sheet, n) {
-                return Answer::Done;
-            }
-            return Answer::Refused(Refusal::OutOfRow);
-        }
-        return Answer::Refused(Refusal::NotStored);
+    if !format::well_formed(sheet) {
+        return Err(Refusal::Malformed);
     }
-    Answer::Refused(Refusal::Malformed)
+    let n = format::count(sheet);
+    if !all_known(sheet, n) {
+        return Err(Refusal::NotStored);
+    }
+    if !all_fitting(sheet, n) {
+        return Err(Refusal::OutOfRow);
+    }
+    Ok(())
 }
 
 // An accepted write of each of the first n rows.
+#[tactic(auto, unfolding(crate::specs::Loading::store_of), using(rows::proofs::Laws::place_below))]
 fn store_rows(values: [u32; 39], sheet: &[u8], n: u8) -> [u32; 39]
     ensures { result ≡ stored_rows values sheet.now n }
 {
     let mut v = values;
-    let mut i: u8 = 0;
-    while i < n {
-        let place = table::place_of(format::address_at(sheet, i));
-        let word = meant(sheet, i);
-        i += 1;
-        match place {
-            Place::At(p) => {
-                v[p] = word;
-            }
-            Place::Nowhere => {}
+    for i in 0..n {
+        if let Some(p) = table::place_of(format::address_at(sheet, i)) {
+            v[p] = meant(sheet, i);
         }
     }
     v
@@ -114,7 +91,7 @@ fn store_rows(values: [u32; 39], sheet: &[u8], n: u8) -> [u32; 39]
 #[derive(Clone, Copy)]
 pub struct Loaded {
     pub values: [u32; 39],
-    pub answer: Answer,
+    pub answer: Result<(), Refusal>,
 }
 
 // The sheet loaded, all or nothing.
@@ -123,11 +100,9 @@ pub fn load(values: [u32; 39], sheet: &[u8]) -> Loaded
     ensures { result ≡ load_of values sheet.now }
 {
     let answer = check(sheet);
-    match answer {
-        Answer::Done => {
-            let v = store_rows(values, sheet, format::count(sheet));
-            Loaded { values: v, answer }
-        }
-        Answer::Refused(_) => Loaded { values, answer },
-    }
+    let values = match answer {
+        Ok(()) => store_rows(values, sheet, format::count(sheet)),
+        Err(_) => values,
+    };
+    Loaded { values, answer }
 }

@@ -14,7 +14,7 @@ pub struct SheetReader<'a> {
     pub row: u8,
 }
 
-// What is handed out: a row's address and value, or that none is left.
+// What is handed out: a row's address and value, or that none is left. An enum of its own, as `next` hands it out and demands' `Real` names it.
 #[derive(Clone, Copy)]
 pub enum Reading {
     Row(u8, u32),
@@ -27,23 +27,20 @@ pub enum Reading {
 pub(crate) fn row_of(sheet: &[u8], row: u8) -> Reading
     ensures { result ≡ read_of sheet.now row }
 {
-    if format::well_formed(sheet) {
-        if row < format::count(sheet) {
-            return Reading::Row(format::address_at(sheet, row), format::value_at(sheet, row));
-        }
-        return Reading::End;
+    if !format::well_formed(sheet) {
+        Reading::Refused(Refusal::Malformed)
+    } else if row < format::count(sheet) {
+        Reading::Row(format::address_at(sheet, row), format::value_at(sheet, row))
+    } else {
+        Reading::End
     }
-    Reading::Refused(Refusal::Malformed)
 }
 
 // No sheet has a row past 38, so the number may stay there.
 pub(crate) fn row_after(row: u8) -> u8
     ensures { result ≡ row_after row }
 {
-    if row < format::MOST {
-        return row + 1;
-    }
-    row
+    if row < format::MOST { row + 1 } else { row }
 }
 
 impl<'a> SheetReader<'a> {

@@ -5,36 +5,17 @@ ghost use Rattle.sheet.specs.Refusals.{refusal_of};
 // The bytes are no sheet; an address is not among the 39; a value lies outside its row; the space is too short to write one.
 #[derive(Clone, Copy)]
 pub enum Refusal {
-    Malformed,
-    NotStored,
-    OutOfRow,
-    Short,
+    Malformed = 11,
+    NotStored = 12,
+    OutOfRow = 13,
+    Short = 14,
 }
 
 impl Refusal {
-    const MALFORMED: u32 = 11;
-
-    const NOT_STORED: u32 = 12;
-
-    const OUT_OF_ROW: u32 = 13;
-
-    const SHORT: u32 = 14;
-
     // The document's number.
     pub fn number(self) -> u32
         ensures { result ≡ refusal_of self }
     {
-        match self {
-            Refusal::Malformed => Refusal::MALFORMED,
-            Refusal::NotStored => Refusal::NOT_STORED,
-            Refusal::OutOfRow => Refusal::OUT_OF_ROW,
-            Refusal::Short => Refusal::SHORT,
-        }
+        self as u32
     }
-}
-
-#[derive(Clone, Copy)]
-pub enum Answer {
-    Done,
-    Refused(Refusal),
 }

@@ -4,7 +4,7 @@ ghost use Rattle.sheet.specs.Spelled.{bodies_of};
 ghost use Rattle.sheet.specs.Writing.{front, sheet_of, write_of, written_on};
 
 use crate::format;
-use crate::refusal::{Answer, Refusal};
+use crate::refusal::Refusal;
 use rows::table;
 use wire::word;
 
@@ -14,6 +14,7 @@ const FRONT: usize = 118;
 const WHOLE: usize = 274;
 
 // Byte k of the count and the contents.
+#[tactic(auto, using(crate::proofs::Bytes::front_at))]
 fn front_byte(k: usize) -> u8
     requires { k < 118 }
     ensures { result ≡ get_or front k 0 }
@@ -24,10 +25,7 @@ fn front_byte(k: usize) -> u8
     let i = (k - 1) / 3;
     let p = (FRONT + 4 * i) as u16;
     match (k - 1) % 3 {
-        0 => {
-            let row = table::row_of(i);
-            row.0
-        }
+        0 => table::row_of(i).0,
         1 => word::high(p),
         _ => word::low(p),
     }
@@ -47,6 +45,7 @@ fn body_byte(w: u32, m: usize) -> u8
 }
 
 // Byte k of the sheet of these values.
+#[tactic(auto, using(crate::proofs::Bytes::sheet_front, crate::proofs::Bytes::sheet_at))]
 fn sheet_byte(values: [u32; 39], k: usize) -> u8
     requires { k < 274 }
     ensures { result ≡ get_or (sheet_of values) k 0 }
@@ -60,17 +59,15 @@ fn sheet_byte(values: [u32; 39], k: usize) -> u8
 
 // The sheet laid at the start of the space, which is left as it is if it is too short.
 #[tactic(auto, unfolding(crate::specs::Writing::write_of, crate::specs::Writing::written_on))]
-pub fn write(values: [u32; 39], space: &mut [u8]) -> Answer
+pub fn write(values: [u32; 39], space: &mut [u8]) -> Result<(), Refusal>
     ensures value { result ≡ write_of (length space.old) }
     ensures space_after { space.new ≡ written_on values space.old }
 {
     if space.len() < WHOLE {
-        return Answer::Refused(Refusal::Short);
+        return Err(Refusal::Short);
     }
-    let mut k: usize = 0;
-    while k < WHOLE {
+    for k in 0..WHOLE {
         space[k] = sheet_byte(values, k);
-        k += 1;
     }
-    Answer::Done
+    Ok(())
 }

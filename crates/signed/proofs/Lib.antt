@@ -1,6 +1,6 @@
 pub mod Sizes
-pub mod Differences
 pub mod Signed
 pub mod Rounds
+pub mod Differences
 pub mod Laws
 pub mod Examples

@@ -11,10 +11,6 @@ use mir.Val.{SFits, to_z, of_z}
 use mir.Facts.{to_z-of_z, sfits_widen}
 use Rattle.signed.proofs.Sizes.{above, abs_sub}
 
--- a callee's result, from its range, `c.callee.type_inv`
-pub back : (z : ℤ) → mag z < 9223372036854775808 → to_z w64 (of_z w64 z) ≡ z
-back z h = to_z-of_z {w = w64} (record { sfits = h })
-
 -- a number fits where its size does
 pub abs_fits : (z : ℤ) → nat_abs z < 9223372036854775808 → SFits w64 z
 abs_fits (pos n) h = record { sfits = h }

@@ -12,8 +12,7 @@ ghost use Rattle.signed.specs.Position.{absolute_of};
 pub fn number(w: u32) -> i64
     ensures { result ≡ number_of w }
 {
-    let v = w as i64;
-    if w < 2147483648 { v } else { v - 4294967296 }
+    w.cast_signed() as i64
 }
 
 // The word of 32 bits that stands for a number; of a number of more bits, its lowest 32.
@@ -21,32 +20,22 @@ pub fn number(w: u32) -> i64
 pub fn word(v: i64) -> u32
     ensures { result ≡ word_of v }
 {
-    if v < 0 {
-        let n = (-1 - v) as u64;
-        (4294967295 - n % 4294967296) as u32
-    } else {
-        let n = v as u64;
-        (n % 4294967296) as u32
-    }
+    (v.cast_unsigned() % 4294967296) as u32
 }
 
 // A number without its sign.
 pub fn size(v: i64) -> u64
     ensures { result ≡ nat_abs v }
 {
-    if v < 0 { (-1 - v) as u64 + 1 } else { v as u64 }
+    v.unsigned_abs()
 }
 
-// How far two numbers are apart. Where their signs differ the sizes are added, so that nothing wraps.
+// How far two numbers are apart; nothing wraps where their signs differ.
 #[tactic(auto, unfolding(crate::specs::Number::distance_of))]
 pub fn distance(a: i64, b: i64) -> u64
     ensures { result ≡ distance_of a b }
 {
-    if (a < 0) == (b < 0) {
-        size(a - b)
-    } else {
-        size(a) + size(b)
-    }
+    a.abs_diff(b)
 }
 
 // A size with a minus sign.
@@ -90,20 +79,11 @@ pub fn rounded(p: i64, k: u32) -> i64
 }
 
 // a - b, held to what a head can show.
+#[tactic(auto, unfolding(crate::specs::Difference::held_of))]
 pub fn difference(a: i64, b: i64) -> i64
     ensures { result ≡ held_of (a -ℤ b) }
 {
-    let n = distance(a, b);
-    if a < b {
-        if 5242880 < n {
-            return -5242880;
-        }
-        return minus(n);
-    }
-    if 5242880 < n {
-        return 5242880;
-    }
-    n as i64
+    a.saturating_sub(b).clamp(-5242880, 5242880)
 }
 
 // The differential value of the actual value a and the set point s.

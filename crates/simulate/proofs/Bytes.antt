@@ -1,8 +1,6 @@
 -- Bytes fed one after another: none, a stretch of them more, those of a send as they stand in its line, and the room that is lent for them.
 -- Assumes nothing.
-use Rattle.std.proofs.Common.{◌≡◌, ℕ, zero, suc, ◌+◌, ◌-◌, ◌<◌, ◌≤◌, List, length, take, drop, replicate, sym, refl, ap, ◌∙◌, subst, arith, length-drop, length-take-le, drop-cons}
-use Rattle.head.specs.declared.calls.Heard.{Heard}
-use Rattle.head.specs.declared.calls.Heard.TheVariants as heard
+use Rattle.std.proofs.Common.{◌≡◌, ℕ, zero, suc, ◌+◌, ◌-◌, ◌<◌, ◌≤◌, List, length, take, drop, replicate, sym, refl, ap, ◌∙◌, subst, arith, length-drop, length-take-le, drop-cons, Ok, Err, Result}
 use Rattle.line.specs.declared.calls.Line.{Line}
 use Rattle.line.specs.declared.calls.Stretch.{Stretch}
 use Rattle.line.specs.Calls.{byte_of}
@@ -11,6 +9,7 @@ use Rattle.line.proofs.Stretch.{fed_all, until_stretched, until_refused}
 use Rattle.simulate.specs.declared.desk.Desk.{Desk}
 use Rattle.simulate.specs.Feeding.{nth_of, fed_of, after_of}
 use Rattle.simulate.specs.Desk.{room_of, left_of, feed_of}
+use Rattle.head.specs.declared.refusal.Refusal.{Refusal}
 
 module _ (time : ℕ) (l₀ : Line) where
   -- the line before the first byte
@@ -61,17 +60,17 @@ module _ (time : ℕ) (l₀ : Line) where
             → u.line ≡ fed_of (nth_of bytes) time (length space) l₀ k → Further (length space) j u
         to k is m n f = record { more = rw is m; within = rw is n; line = rw is f }
 
-        go : (h : Heard) → u.heard ≡ h → Further (length space) j u
-        go (heard.Replies n) q =
+        go : (h : Result ℕ Refusal) → u.heard ≡ h → Further (length space) j u
+        go (Ok n) q =
             let t = until_stretched l (drop j bytes) j time space q in
             let some : 0 < t.count = t.some (omega (arith, left)) in
             let within : j + t.count ≤ length bytes = omega (arith, left, t.within) in
-            to (j + t.count) (ap (λ (h : Heard). after_of h u.next (length bytes)) q ∙ t.next) (omega arith) within (t.line ∙ calls t.count within)
-        go (heard.Refused why) q =
+            to (j + t.count) (ap (λ (h : Result ℕ Refusal). after_of h u.next (length bytes)) q ∙ t.next) (omega arith) within (t.line ∙ calls t.count within)
+        go (Err why) q =
             let w = until_refused l (drop j bytes) j time space q in
             let all : j + (length bytes - j) ≡ length bytes = omega arith in
             let c = calls (length bytes - j) (omega arith) in
-            to (length bytes) (ap (λ (h : Heard). after_of h u.next (length bytes)) q) p (omega arith)
+            to (length bytes) (ap (λ (h : Result ℕ Refusal). after_of h u.next (length bytes)) q) p (omega arith)
             (w.0 ∙ sym (w.1 (take (length bytes - j) (drop j bytes))) ∙ c ∙ ap (fed_of (nth_of bytes) time (length space) l₀) all)
 
     -- as the call is made: the room stays, and the bytes go on from place k

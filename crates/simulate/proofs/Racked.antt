@@ -1,14 +1,13 @@
 -- What a rack shows: where it is not refused, the digits of just the replies that it laid, each after a blank and in their order; there is room for all
 -- of them.
 -- Assumes nothing.
-use Rattle.std.proofs.Common.{◌≡◌, ℕ, ◌+◌, ◌*◌, ◌/◌, ◌≤◌, min, List, [], ◌∷◌, ◌++◌, length, take, drop, refl, ap, append_assoc, arith, length-append, length-take-le, take_at, drop_at, le-ltb}
+use Rattle.std.proofs.Common.{◌≡◌, ℕ, ◌+◌, ◌*◌, ◌/◌, ◌≤◌, min, List, [], ◌∷◌, ◌++◌, length, take, drop, refl, ap, append_assoc, arith, length-append, length-take-le, take_at, drop_at, le-ltb, Ok}
 use Prim.Native.Char.{code}
 use native.Mathlib.Nat.{min-eq_left}
 use Rattle.hex_digits.specs.Digits.{digits_of}
 use Rattle.head.specs.declared.refusal.Refusal.{Refusal}
 use Rattle.head.proofs.Tests.{Hold, passed}
 use Rattle.line.specs.declared.calls.Line.{Line}
-use Rattle.rack.specs.declared.Answer.TheVariants as answer
 use Rattle.rack.specs.declared.Racked.{Racked}
 use Rattle.rack.specs.declared.Tally.{Tally}
 use Rattle.rack.specs.Rack.{dropped_of, fed_of, joined, filled, refused_with, racked, rack_tests, rack_of, rack_space_of}
@@ -41,7 +40,7 @@ spelled_out (r ∷ rs) t rest =
 
 -- what counts replies is not refused
 abbrev Counts : Tally → Racked → Type 0
-Counts counts r = r.answer ≡ answer.Laid counts
+Counts counts r = r.answer ≡ Ok counts
 
 counts_only : {counts : Tally} (l : Line) (why : Refusal) → Counts counts (refused_with l why) → ⊥
 counts_only l why e = let z : ◌≡◌ {A = ℕ} 0 1 = cc in omega arith

@@ -1,11 +1,9 @@
 -- What a command does to the desk: each line of a script makes just the calls that its meaning names.
 -- Assumes nothing.
-use Rattle.std.specs.Prelude.{ℕ, min, List, [], ◌∷◌, ◌++◌, slice_index}
+use Rattle.std.specs.Prelude.{ℕ, min, List, [], ◌∷◌, ◌++◌, slice_index, Ok, Err, Result, ⊤}
 use Prim.Native.Char.{code}
 use Rattle.hex_digits.specs.Digits.{digits_of}
 use Rattle.wire.specs.declared.telegram.Telegram.{Telegram}
-use Rattle.master.specs.declared.Answer.{Answer}
-use Rattle.master.specs.declared.Answer.TheVariants as answer
 use Rattle.master.specs.Master.{built_of}
 use Rattle.line.specs.declared.calls.Line.{Line}
 use Rattle.line.specs.declared.calls.Called.{Called}
@@ -18,6 +16,7 @@ use Rattle.simulate.specs.declared.desk.Desk.{Desk}
 use Rattle.simulate.specs.Ask.{question_of}
 use Rattle.simulate.specs.Carried.{brought_of}
 use Rattle.simulate.specs.Feeding.{fed_of}
+use Rattle.master.specs.declared.Refusal.{Refusal}
 
 -- no head, and space for one reply
 unfoldable pub desk_of : Desk
@@ -47,9 +46,9 @@ unfoldable pub feed_of : Desk → (ℕ → ℕ) → ℕ → ℕ → Desk
 feed_of d nth time count = left_of d (fed_of nth time (room_of d.space) d.line count)
 
 -- a question: the ten bytes of its telegram; where none is built nothing changes
-abbrev pub if_built : Answer → Desk → Desk → Desk
-if_built answer.Done fed d = fed
-if_built (answer.Refused why) fed d = d
+abbrev pub if_built : Result ⊤ Refusal → Desk → Desk → Desk
+if_built (Ok tt) fed d = fed
+if_built (Err why) fed d = d
 
 unfoldable pub asked_of : Desk → ℕ → Telegram → Desk
 asked_of d time question =

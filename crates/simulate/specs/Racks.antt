@@ -1,11 +1,11 @@
 -- Racks in a script: the words of the replies that a rack laid (document 02, request (x)).
 -- Assumes nothing.
-use Rattle.std.specs.Prelude.{ℕ, zero, suc, ◌*◌, ◌/◌, min, List, [], ◌++◌, length, drop}
+use Rattle.std.specs.Prelude.{ℕ, zero, suc, ◌*◌, ◌/◌, min, List, [], ◌++◌, length, drop, Ok, Err, Result}
 use Rattle.line.specs.declared.calls.Line.{Line}
-use Rattle.rack.specs.declared.Answer.{Answer}
-use Rattle.rack.specs.declared.Answer.TheVariants as answer
 use Rattle.rack.specs.Rack.{rack_of, rack_space_of}
 use Rattle.simulate.specs.Feeding.{word_of}
+use Rattle.head.specs.declared.refusal.Refusal.{Refusal}
+use Rattle.rack.specs.declared.Tally.{Tally}
 
 -- the words of so many replies that stand one after another
 unfoldable pub reply_words_of : List ℕ → ℕ → List ℕ
@@ -13,9 +13,9 @@ reply_words_of replies zero = []
 reply_words_of replies (suc n) = word_of replies ++ reply_words_of (drop 10 replies) n
 
 -- how many replies an answer counts; a refusal counts none
-abbrev pub counted_of : Answer → ℕ
-counted_of (answer.Laid tally) = tally.replies
-counted_of (answer.Refused why) = 0
+abbrev pub counted_of : Result Tally Refusal → ℕ
+counted_of (Ok tally) = tally.replies
+counted_of (Err why) = 0
 
 -- the words at the start of a text, as many as there is room for, and the rest of it unchanged: a word is 21 characters
 abbrev pub shown_count : List ℕ → ℕ → ℕ

@@ -1,77 +1,56 @@
-// Answers: written, or put together in a lent text, so that a line of many replies is written at once.
+// Answers: written, or put together first, so that a line of many replies is written at once.
+ghost use Rattle.std.specs.Prelude.{◌≤◌};
+
 use std::io;
-use text::laying;
 
-// An answer that is being put together: how much of it stands in the lent text, and whether what did not fit before could be written.
+// As much of an answer as is put together before it is written.
+const ROOM: usize = 2048;
+
+// An answer that is being put together: so many characters at the start of the text are still to be written. Once something could not be written
+// nothing more is.
 #[derive(Clone, Copy)]
-pub(crate) struct Answering {
-    pub kept: usize,
-    pub written: io::Result<()>,
+pub(crate) struct Answer {
+    text: [u8; ROOM],
+    kept: usize,
+    written: io::Result<()>,
+    ghost in_room: { kept ≤ 2048 },
 }
 
-pub(crate) fn write(rt: &impl Print, text: &[u8]) -> io::Result<()> {
-    rt.write_all(text)
-}
+impl Answer {
+    pub(crate) fn new() -> Self {
+        Answer {
+            text: [0; ROOM],
+            kept: 0,
+            written: Ok(()),
+        }
+    }
 
-pub(crate) fn write_number(rt: &impl Print, n: u64) -> io::Result<()> {
-    rt.print(n)
+    // What is put together is written.
+    pub(crate) fn flush(&mut self, rt: &impl Print) -> io::Result<()> {
+        self.written?;
+        self.written = rt.write_all(&self.text[..self.kept]);
+        self.kept = 0;
+        self.written
+    }
+
+    // A piece more, after what stands in its way is written. No piece is longer than the room.
+    #[tactic(auto, unfolding(text::specs::Laid::kept_of))]
+    pub(crate) fn put(&mut self, rt: &impl Print, piece: &[u8]) {
+        if ROOM - self.kept < piece.len() {
+            let _ = self.flush(rt);
+        }
+        self.kept = text::laying::lay(&mut self.text, self.kept, piece);
+    }
+
+    // A label and a number more, written at once: what is put together goes before them.
+    pub(crate) fn put_number(&mut self, rt: &impl Print, label: &str, n: u64) {
+        if self.flush(rt).is_ok() {
+            self.written = print!(rt; "{label}{n}");
+        }
+    }
 }
 
 // A refusal, by its number.
-pub(crate) fn write_refusal(rt: &impl Print, number: u32) -> io::Result<()> {
-    let label = write(rt, b"refused ");
-    label.and(write_number(rt, number as u64))
-}
-
-pub(crate) fn write_refused(rt: &impl Print, number: u32) -> io::Result<()> {
-    let text = write_refusal(rt, number);
-    text.and(write(rt, b"\n"))
-}
-
-// What is kept of an answer, written.
-pub(crate) fn flush(rt: &impl Print, out: &[u8], a: Answering) -> io::Result<()> {
-    let kept = a.kept;
-    if kept <= out.len() {
-        return a.written.and(write(rt, &out[..kept]));
-    }
-    a.written
-}
-
-// What is kept, written where there is no room for n bytes more.
-fn cleared(rt: &impl Print, out: &[u8], a: Answering, n: usize) -> Answering {
-    let kept = a.kept;
-    if kept <= out.len() {
-        if n <= out.len() - kept {
-            return a;
-        }
-    }
-    Answering {
-        kept: 0,
-        written: flush(rt, out, a),
-    }
-}
-
-// A piece more of an answer.
-pub(crate) fn put(rt: &impl Print, out: &mut [u8], a: Answering, piece: &[u8]) -> Answering {
-    let room = cleared(rt, out, a, piece.len());
-    Answering {
-        kept: laying::lay(out, room.kept, piece),
-        written: room.written,
-    }
-}
-
-// A label and a number more of an answer, written at once: what is kept goes before them.
-pub(crate) fn put_number(
-    rt: &impl Print,
-    out: &[u8],
-    a: Answering,
-    label: &[u8],
-    n: u64,
-) -> Answering {
-    let before = flush(rt, out, a);
-    let text = before.and(write(rt, label));
-    Answering {
-        kept: 0,
-        written: text.and(write_number(rt, n)),
-    }
+pub(crate) fn refuse(rt: &impl Print, number: u32) -> io::Result<()> {
+    println!(rt; "refused {number}")
 }

@@ -2,9 +2,8 @@
 ghost use Rattle.std.specs.Prelude.{◌≡◌, take};
 ghost use Rattle.simulate.specs.Ask.{question_of, told_of, code_digits_of};
 
-use crate::answer;
-use crate::answer::Answering;
-use head::calls::Heard;
+use crate::answer::Answer;
+use head::refusal::Refusal;
 use master::Reading;
 use wire::telegram::Telegram;
 use wire::word;
@@ -32,7 +31,7 @@ pub(crate) fn question(
         node: word::fourth(node),
         parameter: word::fourth(parameter),
         word: word::half(word::third(control), word::fourth(control)),
-        value: value,
+        value,
     }
 }
 
@@ -40,28 +39,19 @@ pub(crate) fn question(
 fn reply(space: &[u8]) -> &[u8]
     ensures { result.now ≡ take 10 space.now }
 {
-    if space.len() < 10 {
-        return space;
-    }
-    &space[..10]
+    &space[..space.len().min(10)]
 }
 
 // What a byte drew. One that is refused draws nothing.
 #[tactic(auto, unfolding(crate::specs::Ask::told_of))]
-pub(crate) fn told(question: Telegram, heard: Heard, space: &[u8]) -> Drawn
+pub(crate) fn told(question: Telegram, heard: Result<usize, Refusal>, space: &[u8]) -> Drawn
     ensures { result ≡ told_of question heard space.now }
 {
     match heard {
-        Heard::Replies(n) => {
-            if n == 0 {
-                return Drawn::Nothing;
-            }
-            if n == 1 {
-                return Drawn::Reply(master::read(question, reply(space)));
-            }
-            Drawn::Collision(n)
-        }
-        Heard::Refused(_) => Drawn::Nothing,
+        Ok(0) => Drawn::Nothing,
+        Ok(1) => Drawn::Reply(master::read(question, reply(space))),
+        Ok(n) => Drawn::Collision(n),
+        Err(_) => Drawn::Nothing,
     }
 }
 
@@ -71,28 +61,26 @@ fn code_digits(code: u16) -> [u8; 4]
     ensures { result ≡ code_digits_of code }
 {
     let mut text = [b' '; 4];
-    let two = [word::high(code), word::low(code)];
-    hex_digits::spell(&two, &mut text);
+    hex_digits::spell(&[word::high(code), word::low(code)], &mut text);
     text
 }
 
-fn put_reading(rt: &impl Print, out: &mut [u8], a: Answering, reading: Reading) -> Answering {
+fn put_reading(rt: &impl Print, answer: &mut Answer, reading: Reading) {
     match reading {
-        Reading::Value(n) => answer::put_number(rt, out, a, b" value ", n as u64),
+        Reading::Value(n) => answer.put_number(rt, " value ", n as u64),
         Reading::Error(code) => {
-            let label = answer::put(rt, out, a, b" error ");
-            let digits = code_digits(code);
-            answer::put(rt, out, label, &digits)
+            answer.put(rt, b" error ");
+            answer.put(rt, &code_digits(code));
         }
-        Reading::Foreign => answer::put(rt, out, a, b" foreign"),
+        Reading::Foreign => answer.put(rt, b" foreign"),
     }
 }
 
 // The words for what a byte drew.
-pub(crate) fn put_drawn(rt: &impl Print, out: &mut [u8], a: Answering, drawn: Drawn) -> Answering {
+pub(crate) fn put_drawn(rt: &impl Print, answer: &mut Answer, drawn: Drawn) {
     match drawn {
-        Drawn::Nothing => a,
-        Drawn::Reply(reading) => put_reading(rt, out, a, reading),
-        Drawn::Collision(n) => answer::put_number(rt, out, a, b" collision ", n as u64),
+        Drawn::Nothing => {}
+        Drawn::Reply(reading) => put_reading(rt, answer, reading),
+        Drawn::Collision(n) => answer.put_number(rt, " collision ", n as u64),
     }
 }

@@ -2,8 +2,6 @@
 ghost use Rattle.std.specs.Prelude.{◌≡◌, ◌≤◌, min, length, take};
 ghost use Rattle.script.specs.Meaning.{byte_at_of, read};
 
-use crate::room;
-
 // As many bytes as a line has digits for.
 pub(crate) const MOST: usize = 2048;
 
@@ -13,11 +11,9 @@ pub(crate) fn gather(bytes: &mut [u8], text: &[u8], from: usize, count: usize) -
     ensures upper_bound { result ≤ length bytes.old }
     ensures bytes_after { take result bytes.new ≡ read (byte_at_of text.now from) result }
 {
-    let n = room::within(count, bytes.len());
-    let mut i: usize = 0;
-    while i < n {
+    let n = count.min(bytes.len());
+    for i in 0..n {
         bytes[i] = script::byte_at(text, from, i);
-        i += 1;
     }
     n
 }

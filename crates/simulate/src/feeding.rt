@@ -2,9 +2,9 @@
 ghost use Rattle.std.specs.Prelude.{◌≡◌, length};
 ghost use Rattle.simulate.specs.Feeding.{word_of, nth_of, fed_of, after_of};
 
-use crate::answer::Answering;
-use crate::{answer, ask};
-use head::calls::Heard;
+use crate::answer::Answer;
+use crate::ask;
+use head::refusal::Refusal;
 use line::calls;
 use line::calls::Line;
 use wire::telegram::Telegram;
@@ -14,13 +14,6 @@ use wire::telegram::Telegram;
 pub(crate) enum Purpose {
     Send,
     Ask(Telegram),
-}
-
-// The line after the bytes that were fed, and what they drew.
-#[derive(Clone, Copy)]
-pub(crate) struct Sent {
-    pub line: Line,
-    pub answering: Answering,
 }
 
 // The reply at the start of the space, after a blank.
@@ -37,81 +30,58 @@ pub(crate) fn word(space: &[u8]) -> [u8; 21]
 }
 
 // What the last byte of a stretch of a send drew, as it came.
-fn put_replies(
-    rt: &impl Print,
-    out: &mut [u8],
-    a: Answering,
-    heard: Heard,
-    space: &[u8],
-) -> Answering {
-    match heard {
-        Heard::Replies(n) => {
-            if n == 0 {
-                return a;
-            }
-            if n == 1 {
-                let text = word(space);
-                return answer::put(rt, out, a, &text);
-            }
-            answer::put_number(rt, out, a, b" collision ", n as u64)
-        }
-        Heard::Refused(_) => a,
+fn put_replies(rt: &impl Print, answer: &mut Answer, n: usize, space: &[u8]) {
+    match n {
+        0 => {}
+        1 => answer.put(rt, &word(space)),
+        _ => answer.put_number(rt, " collision ", n as u64),
     }
 }
 
-// The first stretch says whether the bytes are refused or fed; a refusal is that of all of them.
-fn put_start(
-    rt: &impl Print,
-    out: &mut [u8],
-    a: Answering,
-    is_first: bool,
-    purpose: Purpose,
-    heard: Heard,
-) -> Answering {
-    if is_first {
-        return match heard {
-            Heard::Replies(_) => match purpose {
-                Purpose::Send => answer::put(rt, out, a, b"sent"),
-                Purpose::Ask(_) => answer::put(rt, out, a, b"asked"),
-            },
-            Heard::Refused(why) => Answering {
-                kept: 0,
-                written: a.written.and(answer::write_refusal(rt, why.number())),
-            },
-        };
-    }
-    a
-}
-
-// What a stretch is answered with.
+// What a stretch is answered with. The first says whether the bytes are refused or fed; a refusal is that of all of them.
 fn put_heard(
     rt: &impl Print,
-    out: &mut [u8],
-    a: Answering,
+    answer: &mut Answer,
     is_first: bool,
     purpose: Purpose,
-    heard: Heard,
+    heard: Result<usize, Refusal>,
     space: &[u8],
-) -> Answering {
-    let start = put_start(rt, out, a, is_first, purpose, heard);
-    match purpose {
-        Purpose::Send => put_replies(rt, out, start, heard, space),
-        Purpose::Ask(question) => ask::put_drawn(rt, out, start, ask::told(question, heard, space)),
+) {
+    match heard {
+        Ok(n) => match purpose {
+            Purpose::Send => {
+                if is_first {
+                    answer.put(rt, b"sent");
+                }
+                put_replies(rt, answer, n, space);
+            }
+            Purpose::Ask(question) => {
+                if is_first {
+                    answer.put(rt, b"asked");
+                }
+                ask::put_drawn(rt, answer, ask::told(question, heard, space));
+            }
+        },
+        Err(why) => {
+            if is_first {
+                answer.put_number(rt, "refused ", why.number() as u64);
+            }
+        }
     }
 }
 
 // Where bytes go on after a stretch: at the next one. A refusal is that of all of them, so then past the last.
-fn after(heard: Heard, next: usize, end: usize) -> usize
+fn after(heard: Result<usize, Refusal>, next: usize, end: usize) -> usize
     ensures { result ≡ after_of heard next end }
 {
     match heard {
-        Heard::Replies(_) => next,
-        Heard::Refused(_) => end,
+        Ok(_) => next,
+        Err(_) => end,
     }
 }
 
-// All these bytes, at one time and with the same space; the answer to them is put into `out`. They are fed by stretches, since a call copies the
-// whole line, and only a byte that draws a reply has something to be answered before the next.
+// All these bytes, at one time and with the same space; the answer to them is put together. They are fed by stretches, since a call copies the whole
+// line, and only a byte that draws a reply has something to be answered before the next.
 pub(crate) fn feed_all(
     rt: &impl Print,
     line: Line,
@@ -119,25 +89,18 @@ pub(crate) fn feed_all(
     bytes: &[u8],
     time: u32,
     space: &mut [u8],
-    out: &mut [u8],
-) -> Sent
-    ensures { result.line ≡ fed_of (nth_of bytes.now) time (length space.old) line (length bytes.now) }
+    answer: &mut Answer,
+) -> Line
+    ensures { result ≡ fed_of (nth_of bytes.now) time (length space.old) line (length bytes.now) }
 {
     let mut l = line;
-    let mut a = Answering {
-        kept: 0,
-        written: Ok(()),
-    };
     let mut i: usize = 0;
+    // A stretch says where the bytes go on, so that no `for` counts the places.
     while i < bytes.len() {
         let s = calls::until_reply(l, bytes, i, time, space);
         l = s.line;
-        let heard = s.heard;
-        a = put_heard(rt, out, a, i == 0, purpose, heard, space);
-        i = after(heard, s.next, bytes.len());
+        put_heard(rt, answer, i == 0, purpose, s.heard, space);
+        i = after(s.heard, s.next, bytes.len());
     }
-    Sent {
-        line: l,
-        answering: a,
-    }
+    l
 }

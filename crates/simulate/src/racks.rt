@@ -3,9 +3,10 @@ ghost use Rattle.std.specs.Prelude.{◌≡◌, length, drop};
 ghost use Rattle.rack.specs.Rack.{rack_of};
 ghost use Rattle.simulate.specs.Racks.{counted_of, shown_on, shown_of};
 
-use crate::{answer, feeding, room};
+use crate::{answer, feeding};
+use head::refusal::Refusal;
 use line::calls::Line;
-use rack::{Answer, Racked};
+use rack::{Racked, Tally};
 use std::io;
 use text::laying;
 
@@ -13,12 +14,12 @@ use text::laying;
 pub(crate) const WORDS: usize = 1344;
 
 // How many replies an answer counts; refused, none.
-fn counted(answer: Answer) -> usize
+fn counted(answer: Result<Tally, Refusal>) -> usize
     ensures { result ≡ counted_of answer }
 {
     match answer {
-        Answer::Laid(tally) => tally.replies,
-        Answer::Refused(_) => 0,
+        Ok(tally) => tally.replies,
+        Err(_) => 0,
     }
 }
 
@@ -26,23 +27,17 @@ fn counted(answer: Answer) -> usize
 fn from(space: &[u8], place: usize) -> &[u8]
     ensures { result.now ≡ drop place space.now }
 {
-    if place <= space.len() {
-        return &space[place..];
-    }
-    &space[..0]
+    space.get(place..).unwrap_or(&[])
 }
 
 // The words of so many replies, which stand one after another, at the start of a text: as many as there is room for.
 fn show(replies: &[u8], n: usize, out: &mut [u8])
     ensures { out.new ≡ shown_on out.old replies.now n }
 {
-    let m = room::within(n, out.len() / 21);
-    let mut kept: usize = 0;
-    let mut i: usize = 0;
-    while i < m {
-        let text = feeding::word(from(replies, 10 * i));
-        kept = laying::lay(out, kept, &text);
-        i += 1;
+    let m = n.min(out.len() / 21);
+    let mut kept = 0;
+    for i in 0..m {
+        kept = laying::lay(out, kept, &feeding::word(from(replies, 10 * i)));
     }
 }
 
@@ -59,23 +54,23 @@ pub(crate) fn call(
     ensures out_after { out.new ≡ shown_of l bytes.now time space.old place out.old }
 {
     let r = rack::rack(l, bytes, time, space, place);
-    let answer = r.answer;
-    show(from(space, place), counted(answer), out);
+    show(from(space, place), counted(r.answer), out);
     r
 }
 
 // What a rack came to, with the words of the replies that it laid.
-pub(crate) fn write(rt: &impl Print, answer: Answer, words: &[u8]) -> io::Result<()> {
+pub(crate) fn write(
+    rt: &impl Print,
+    answer: Result<Tally, Refusal>,
+    words: &[u8],
+) -> io::Result<()> {
     match answer {
-        Answer::Laid(tally) => {
-            let n = 21 * room::within(tally.replies, words.len() / 21);
-            let label = answer::write(rt, b"racked ");
-            let first = label.and(answer::write_number(rt, tally.replies as u64));
-            let blank = first.and(answer::write(rt, b" "));
-            let second = blank.and(answer::write_number(rt, tally.collisions as u64));
-            let text = second.and(answer::write(rt, &words[..n]));
-            text.and(answer::write(rt, b"\n"))
+        Ok(tally) => {
+            let n = 21 * tally.replies.min(words.len() / 21);
+            print!(rt; "racked {} {}", tally.replies, tally.collisions)?;
+            rt.write_all(&words[..n])?;
+            rt.println("")
         }
-        Answer::Refused(why) => answer::write_refused(rt, why.number()),
+        Err(why) => answer::refuse(rt, why.number()),
     }
 }

@@ -1,151 +1,88 @@
 // The script, read in pieces and taken apart into lines.
-ghost use Rattle.std.specs.Prelude.{◌≡◌, ◌≤◌, length};
+// The functions here stand much alike in each program that reads lines: they print, or call what prints, and no contract of a library could say what.
+ghost use Rattle.std.specs.Prelude.{◌≡◌};
 ghost use Rattle.text.specs.Reading.{ended_of, closed_of, read_of};
-ghost use Rattle.simulate.specs.Reading.{noted_of, state_of, progress_of};
+ghost use Rattle.simulate.specs.Reading.{noted_of, state_of, progress_of, most};
 
 use crate::desk::Desk;
-use crate::{desk, failing};
 use std::io;
 use std::io::Read;
 use std::process::ExitCode;
-use text::lines;
+use text::failing::Failure;
+use text::keeping::Kept;
 
 // As much of a line as its meaning needs: a longer one is malformed whatever it holds.
 const KEPT: usize = 4098;
 
-// How far the script is read: the desk, how many lines there were, how much of the next is kept, whether all answers could be written,
-// whether the script has ended, and whether it could not be read.
+// How far the script is read: the desk, and how many lines there were.
 #[derive(Clone, Copy)]
 struct Reading {
     desk: Desk,
     lines: u64,
-    kept: usize,
-    written: io::Result<()>,
-    ended: bool,
-    failed: bool,
 }
 
-// The end of a line.
-fn end(rt: &impl Print, reading: Reading, line: &[u8]) -> Reading
-    requires { reading.kept ≤ length line.now }
-    ensures kept_value { result.kept ≡ 0 }
-    ensures line_value { progress_of result line.now ≡ ended_of noted_of (progress_of reading line.now) }
-{
-    let number = std::num::wrapping_add_u64(reading.lines, 1);
-    let kept = reading.kept;
-    let o = desk::obey(rt, reading.desk, &line[..kept], number);
-    let desk = o.desk;
-    Reading {
-        desk: desk,
-        lines: number,
-        kept: 0,
-        written: reading.written.and(o.written),
-        ended: reading.ended,
-        failed: reading.failed,
+impl Reading {
+    // The end of a line: what is kept of it is obeyed.
+    fn end(&mut self, rt: &impl Print, line: &mut Kept<KEPT>) -> io::Result<()>
+        ensures { progress_of self.new line.new ≡ ended_of noted_of (progress_of self.old line.old) }
+    {
+        self.lines = self.lines.wrapping_add(1);
+        let written = self.desk.obey(rt, &line.text[..line.count], self.lines);
+        line.clear();
+        written
     }
-}
 
-// The bytes of a piece: each newline ends a line.
-fn take_in(rt: &impl Print, reading: Reading, line: &mut [u8], piece: &[u8]) -> Reading
-    requires { reading.kept ≤ length line.old }
-    ensures kept_in_bounds { result.kept ≤ length line.old }
-    ensures line_after { progress_of result line.new ≡ read_of noted_of (length line.old) (progress_of reading line.old) piece.now }
-{
-    let mut r = reading;
-    let mut i: usize = 0;
-    while i < piece.len() {
-        let t = lines::take_in(line, r.kept, piece, i);
-        r.kept = t.kept;
-        i = t.at;
-        if t.ended {
-            r = end(rt, r, line);
+    // The bytes of a piece: each newline ends a line.
+    fn take_in(&mut self, rt: &impl Print, line: &mut Kept<KEPT>, piece: &[u8]) -> io::Result<()>
+        ensures { progress_of self.new line.new ≡ read_of noted_of most (progress_of self.old line.old) piece.now }
+    {
+        let mut written = Ok(());
+        let mut from = 0;
+        while let Some(next) = line.take_in(piece, from) {
+            written = written.and(self.end(rt, line));
+            from = next;
         }
+        written
     }
-    r
-}
 
-// The end of the script: what is kept, if anything, is a last line without a newline.
-fn closed(rt: &impl Print, reading: Reading, line: &[u8]) -> Reading
-    requires { reading.kept ≤ length line.now }
-    ensures kept_value { result.kept ≡ 0 }
-    ensures result_value { state_of result ≡ closed_of noted_of (progress_of reading line.now) }
-{
-    let mut r = reading;
-    if 0 < r.kept {
-        r = end(rt, r, line);
-    }
-    r.ended = true;
-    r
-}
-
-// What one read brings.
-fn turn(
-    rt: &(impl Print + Eprint + Alloc),
-    input: &mut impl Read,
-    reading: Reading,
-    line: &mut [u8],
-) -> Reading
-    requires { reading.kept ≤ length line.old }
-    ensures { result.kept ≤ length line.old }
-{
-    let mut r = reading;
-    let mut piece = [0u8; 4096];
-    match input.read(&mut piece) {
-        Ok(0) => closed(rt, r, line),
-        Ok(n) => take_in(rt, r, line, &piece[..n]),
-        Err(why) => {
-            failing::tell(rt, "standard input", why);
-            r.ended = true;
-            r.failed = true;
-            r
+    // The end of the script: what is kept, if anything, is a last line without a newline.
+    #[tactic(auto, unfolding(text::specs::Reading::closed_of))]
+    fn close(&mut self, rt: &impl Print, line: &mut Kept<KEPT>) -> io::Result<()>
+        ensures { state_of self.new ≡ closed_of noted_of (progress_of self.old line.old) }
+    {
+        if line.is_empty() {
+            return Ok(());
         }
+        self.end(rt, line)
     }
 }
 
-// Whether all answers could be written. What goes wrong is told.
-fn close(rt: &(impl Eprint + Alloc), written: io::Result<()>) -> bool {
-    match written {
-        Ok(()) => true,
-        Err(why) => {
-            failing::tell(rt, "standard output", why);
-            false
-        }
-    }
-}
-
-// Whether the script could be read and all answers be written. A proved loop has to end, and nothing says that the script does: the turns count up to a
-// number that no run uses up.
-fn read(rt: &(impl Print + Eprint + Alloc), input: &mut impl Read, line: &mut [u8]) -> bool {
-    let mut r = Reading {
-        desk: desk::bare(),
+// The whole script. A proved loop has to end, and nothing says that the script does: the turns count up to a number that no run uses up.
+fn read(rt: &impl Print, input: &mut impl Read) -> Result<(), Failure> {
+    let mut reading = Reading {
+        desk: Desk::bare(),
         lines: 0,
-        kept: 0,
-        written: Ok(()),
-        ended: false,
-        failed: false,
     };
+    let mut line = Kept::new();
+    let mut piece = [0u8; 4096];
     for _ in 0..u64::MAX {
-        r = turn(rt, input, r, line);
-        if r.ended | r.written.is_err() {
-            break;
+        let n = input.read(&mut piece).map_err(Failure::Input)?;
+        if n == 0 {
+            return reading.close(rt, &mut line).map_err(Failure::Output);
         }
+        reading
+            .take_in(rt, &mut line, &piece[..n])
+            .map_err(Failure::Output)?;
     }
-    close(rt, r.written) & !r.failed
+    Ok(())
 }
 
-// Room for what is kept of a line. Of its contents nothing is said, only how much it is.
-fn blank() -> [u8; KEPT]
-    ensures { 4098 ≡ length result }
-{
-    [0; KEPT]
-}
-
-pub(crate) fn run(rt: &(impl Print + Eprint + Input + Alloc)) -> ExitCode {
-    let mut line = blank();
-    let mut input = rt.reader();
-    if read(rt, &mut input, &mut line) {
-        ExitCode::SUCCESS
-    } else {
-        ExitCode::FAILURE
+pub(crate) fn run(rt: &(impl Print + Eprint + Input)) -> ExitCode {
+    match read(rt, &mut rt.reader()) {
+        Ok(()) => ExitCode::SUCCESS,
+        Err(failure) => {
+            let _ = eprintln!(rt; "{failure}");
+            ExitCode::FAILURE
+        }
     }
 }

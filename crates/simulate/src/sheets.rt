@@ -2,19 +2,12 @@
 ghost use Rattle.std.specs.Prelude.{◌≡◌, length};
 ghost use Rattle.line.specs.Calls.{load_of, save_of, save_space_of};
 ghost use Rattle.simulate.specs.Carried.{brought_of};
-ghost use Rattle.simulate.specs.Sheets.{saved_line_of};
+ghost use Rattle.simulate.specs.Sheets.{saved_line_of, shown_of};
 
 use crate::carried;
-use head::calls::Answer;
+use head::refusal::Refusal;
 use line::calls;
 use line::calls::{Called, Line};
-
-// What a save came to: the call's answer, and the line to write where that is Done.
-#[derive(Clone, Copy)]
-pub(crate) struct Saved {
-    pub answer: Answer,
-    pub text: [u8; 555],
-}
 
 // A load of so many bytes, whose digits start at the place `from`. A line of a script has no room for more than 2,048.
 pub(crate) fn load(l: Line, head: usize, text: &[u8], from: usize, count: usize) -> Called
@@ -31,11 +24,7 @@ fn saved_line(space: &[u8]) -> [u8; 555]
     ensures { result ≡ saved_line_of space.now }
 {
     let mut text = [b' '; 555];
-    text[0] = b's';
-    text[1] = b'a';
-    text[2] = b'v';
-    text[3] = b'e';
-    text[4] = b'd';
+    text[..5].copy_from_slice(b"saved");
     text[554] = b'\n';
     if space.len() < 274 {
         return text;
@@ -44,14 +33,10 @@ fn saved_line(space: &[u8]) -> [u8; 555]
     text
 }
 
-// A save into the lent space.
-pub(crate) fn save(l: Line, head: usize, space: &mut [u8]) -> Saved
-    ensures answer_value { result.answer ≡ save_of l head (length space.old) }
-    ensures text_value { result.text ≡ saved_line_of (save_space_of l head space.old) }
+// A save into the lent space: the line to write.
+pub(crate) fn save(l: Line, head: usize, space: &mut [u8]) -> Result<[u8; 555], Refusal>
+    ensures { result ≡ shown_of (save_of l head (length space.old)) (saved_line_of (save_space_of l head space.old)) }
 {
-    let answer = calls::save(l, head, space);
-    Saved {
-        answer: answer,
-        text: saved_line(space),
-    }
+    calls::save(l, head, space)?;
+    Ok(saved_line(space))
 }

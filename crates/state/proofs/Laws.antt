@@ -1,5 +1,6 @@
 -- What holds of a head for any caller: where its settings stand, what a well-formed head is, and how large its values can be.
 -- Assumes nothing.
+use Rattle.std.specs.Prelude.{Some}
 use Prim.Native.Nat.{ℕ, ◌+◌, ◌*◌, ◌%◌, ◌^◌, ◌≤◌, ◌<◌}
 use mathlib.Core.Path.{◌≡◌, refl, sym}
 use mathlib.Core.Bool.{Bool, true, false, cond, not, ◌&&◌, ◌||◌, and-eq-true_iff}
@@ -14,7 +15,6 @@ use lib.Seq.{length-take-le, take_all, take-suc, take-set-le, get_or-set_same}
 use borrow.Author.Tests.{leb-true, le-leb, lt-ltb, le-ltb, ltb-true, ltb-false, eq-eqb, eqb-true, eqb-false, not-true}
 use Rattle.signed.proofs.Sizes.{less_or_not}
 use Rattle.signed.proofs.Laws.{absolute_small, rounded_small}
-use Rattle.rows.specs.declared.table.Place.TheVariants.{At}
 use Rattle.rows.specs.Table.{rows, row_of, place_of}
 use Rattle.rows.specs.Ranges.{fits_in, all_right_of}
 use Rattle.rows.proofs.Laws.{offset_limits, calibration_limits}
@@ -38,7 +38,7 @@ use Rattle.state.proofs.Bits.{bit_most, bit_weighs, bit_five}
 pub places :
     map place_of
     (0x00 ∷ 0x01 ∷ 0x02 ∷ 0x03 ∷ 0x05 ∷ 0x0B ∷ 0x0E ∷ 0x1B ∷ 0x1E ∷ 0x1F ∷ 0x20 ∷ 0x28 ∷ 0x31 ∷ 0x33 ∷ 0x34 ∷ 0x35 ∷ 0x3E ∷ [])
-    ≡ map At
+    ≡ map Some
     (node_place ∷ baud_place ∷ timeout_place ∷ response_place ∷ calibration_key_place ∷ divisor_place ∷ interlock_place ∷ direction_place
     ∷ offset_place ∷ calibration_place ∷ window1_place ∷ mode_place ∷ window2_place ∷ application_place ∷ difference_place ∷ incremental_place ∷ acknowledgement_place ∷ [])
 unfolding place_of rows

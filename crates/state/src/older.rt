@@ -10,10 +10,7 @@ use crate::wellformed;
 fn is_older(h: Head) -> bool
     ensures { result ≡ is_older h }
 {
-    let s = h.stored;
-    let v = s.values;
-    let m = h.measurement;
-    (v[Setting::INCREMENTAL] != 0) | m.incremental
+    h.stored.values[Setting::INCREMENTAL] != 0 || h.measurement.incremental
 }
 
 // The head with 35h 0, incremental off and this start of it.
@@ -21,14 +18,10 @@ fn is_older(h: Head) -> bool
 fn retired(start: i32, h: Head) -> Head
     ensures { result ≡ retired_of start h }
 {
-    let mut s = h.stored;
-    let mut m = h.measurement;
-    s.values[Setting::INCREMENTAL] = 0;
-    m.incremental = false;
-    m.start = start;
     let mut n = h;
-    n.stored = s;
-    n.measurement = m;
+    n.stored.values[Setting::INCREMENTAL] = 0;
+    n.measurement.incremental = false;
+    n.measurement.start = start;
     n
 }
 
@@ -37,11 +30,8 @@ fn retired(start: i32, h: Head) -> Head
 fn fits(h: Head) -> bool
     ensures { result ≡ older_fits h }
 {
-    let s = h.stored;
-    let v = s.values;
-    let m = h.measurement;
-    let rest = wellformed::wellformed(retired(m.start, h));
-    (v[Setting::INCREMENTAL] <= 1) & rest
+    h.stored.values[Setting::INCREMENTAL] <= 1
+        && wellformed::wellformed(retired(h.measurement.start, h))
 }
 
 // Whether refusal 20 lets a head pass: by the old test where the call brings a head over.
@@ -49,9 +39,10 @@ pub fn passes(bringing: bool, h: Head) -> bool
     ensures { result ≡ passes_of bringing h }
 {
     if bringing {
-        return fits(h);
+        fits(h)
+    } else {
+        wellformed::wellformed(h)
     }
-    wellformed::wellformed(h)
 }
 
 // The head brought over; one that is no older head is as it was.
@@ -59,8 +50,5 @@ pub fn passes(bringing: bool, h: Head) -> bool
 pub fn brought(h: Head) -> Head
     ensures { result ≡ brought_of h }
 {
-    if is_older(h) {
-        return retired(0, h);
-    }
-    h
+    if is_older(h) { retired(0, h) } else { h }
 }

@@ -1,4 +1,7 @@
 // A head by value, in small parts. Stored is all that demand 3 speaks of.
+//
+// A flag stands beside its value, 0 beside none, and a count beside its array: the parts are words in fixed memory (repr(C)), of which any can be handed
+// in and are looked at by refusal 20, the statements of demands name each, and FDh and FBh read back what an `Option` would not hold.
 #[repr(C)]
 #[derive(Clone, Copy)]
 pub struct ErrorList {

@@ -25,9 +25,10 @@ fn actual(p: i64, divisor: u32, application: u32) -> i64
     ensures { result ≡ actual_of p divisor application }
 {
     if application < 2 {
-        return signed::rounded(p, divisor);
+        signed::rounded(p, divisor)
+    } else {
+        p
     }
-    p
 }
 
 // What FEh shows: A where 33h is 0, else the position.
@@ -35,21 +36,17 @@ fn actual(p: i64, divisor: u32, application: u32) -> i64
 fn shown(p: i64, a: i64, application: u32) -> i64
     ensures { result ≡ shown_of p a application }
 {
-    if application == 0 {
-        return a;
-    }
-    p
+    if application == 0 { a } else { p }
 }
 
+// The 39 values and the measurement come side by side here, in status and in effects: they are two parts of a head, and these functions ask for no more
+// of it than they look at.
 #[tactic(auto, unfolding(crate::specs::Position::view_of))]
 pub fn view(values: [u32; 39], m: Measurement) -> Readout
     ensures { result ≡ view_of values m }
 {
     let p = position(m, values[Setting::OFFSET]);
-    let a = actual(p, values[Setting::DIVISOR], values[Setting::APPLICATION]);
-    let f = shown(p, a, values[Setting::APPLICATION]);
-    Readout {
-        actual: a,
-        shown: f,
-    }
+    let actual = actual(p, values[Setting::DIVISOR], values[Setting::APPLICATION]);
+    let shown = shown(p, actual, values[Setting::APPLICATION]);
+    Readout { actual, shown }
 }

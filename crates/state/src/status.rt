@@ -1,10 +1,10 @@
 // The status word, and the differential value.
 ghost use Rattle.std.specs.Prelude.{◌≡◌, Bool, ◌^◌, ◌≤◌, ◌<◌};
-ghost use Rattle.state.specs.Bits.{bit, bit_set};
+ghost use Rattle.state.specs.Bits.{bit};
 ghost use Rattle.state.specs.Status.{clockwise_of, aim_of, aim_bits_of, display_bits_of, rest_bits_of, aimed_of, status_of, within_of, difference_of};
 
 use crate::parts::{Head, Measurement, Setting, Targets};
-use crate::{mode, position};
+use crate::{control, mode, position};
 
 // How A lies to set point 2: inside target window 1 (20h), inside window 2 (31h), above it, and the way to go.
 #[repr(C)]
@@ -49,12 +49,11 @@ fn bit(n: u32, on: bool) -> u16
 fn aim_bits(valid: bool, m: Bearing) -> u16
     ensures { (result ≡ aim_bits_of valid m) × (result ≤ 107) }
 {
-    let b0 = bit(0, valid & (!m.inside1 & m.clockwise));
-    let b1 = bit(1, valid & (!m.inside1 & !m.clockwise));
-    let b3 = bit(3, valid & m.inside2);
-    let b5 = bit(5, valid & m.inside1);
-    let b6 = bit(6, valid & m.above);
-    b0 + b1 + b3 + b5 + b6
+    bit(0, valid && !m.inside1 && m.clockwise)
+        + bit(1, valid && !m.inside1 && !m.clockwise)
+        + bit(3, valid && m.inside2)
+        + bit(5, valid && m.inside1)
+        + bit(6, valid && m.above)
 }
 
 // The bits that are the same in every mode.
@@ -62,29 +61,19 @@ fn aim_bits(valid: bool, m: Bearing) -> u16
 fn rest_bits(t: Targets, pending: bool, frozen: bool, keys: u32) -> u16
     ensures { (result ≡ rest_bits_of t pending frozen keys) × (result ≤ 58756) }
 {
-    let b2 = bit(2, t.valid1);
-    let b7 = bit(7, pending);
-    let b8 = bit(8, frozen);
-    let b10 = bit(10, t.valid2);
-    b2 + b7 + b8 + b10 + (keys % 8) as u16 * (1 << 13)
+    bit(2, t.valid1)
+        + bit(7, pending)
+        + bit(8, frozen)
+        + bit(10, t.valid2)
+        + (keys % 8) as u16 * (1 << 13)
 }
 
-// Whether a taken control word says that the set points are characters, and not numbers: its bit 7.
-fn characters(word: u16) -> bool
-    ensures { result ≡ bit_set word 7 }
-{
-    word / 128 % 2 == 1
-}
-
-// Bits 3, 5 and 9 in alpha-numeric display.
+// Bits 3, 5 and 9 in alpha-numeric display. Bit 7 of the control word that was taken last says that the set points are characters, and not numbers.
 #[tactic(auto, unfolding(crate::specs::Status::display_bits_of))]
 fn display_bits(t: Targets) -> u16
     ensures { (result ≡ display_bits_of t) × (result ≤ 552) }
 {
-    let b3 = bit(3, t.acknowledged1);
-    let b5 = bit(5, t.acknowledged2);
-    let b9 = bit(9, characters(t.word));
-    b3 + b5 + b9
+    bit(3, t.acknowledged1) + bit(5, t.acknowledged2) + bit(9, control::bit(t.word, 7))
 }
 
 // How A lies to S, set point 2, valid or not.
@@ -92,25 +81,25 @@ fn display_bits(t: Targets) -> u16
 fn aimed(values: [u32; 39], m: Measurement, t: Targets) -> Bearing
     ensures { result ≡ aimed_of values m t }
 {
-    let w = position::view(values, m);
-    aim(values, w.actual, signed::number(t.second))
+    aim(
+        values,
+        position::view(values, m).actual,
+        signed::number(t.second),
+    )
 }
 
 #[tactic(auto, unfolding(crate::specs::Status::status_of))]
 pub fn status(h: Head) -> u16
     ensures { result ≡ status_of h }
 {
-    let s = h.stored;
-    let f = h.faults;
-    let v = s.values;
-    let m = h.measurement;
+    let v = h.stored.values;
     let t = h.targets;
-    let rest = rest_bits(t, f.pending != 0, m.frozen, h.keys);
+    let rest = rest_bits(t, h.faults.pending != 0, h.measurement.frozen, h.keys);
     if mode::is_display(v[Setting::MODE]) {
-        return display_bits(t) + rest;
+        display_bits(t) + rest
+    } else {
+        aim_bits(t.valid2, aimed(v, h.measurement, t)) + bit(4, t.reached) + rest
     }
-    let x = aim_bits(t.valid2, aimed(v, m, t));
-    x + bit(4, t.reached) + rest
 }
 
 // What sets the static bit: set point 2 is valid and A within window 1, and never in alpha-numeric display.
@@ -118,9 +107,7 @@ pub fn status(h: Head) -> u16
 pub fn within(values: [u32; 39], m: Measurement, t: Targets) -> bool
     ensures { result ≡ within_of values m t }
 {
-    let display = mode::is_display(values[Setting::MODE]);
-    let g = aimed(values, m, t);
-    !display & (t.valid2 & g.inside1)
+    !mode::is_display(values[Setting::MODE]) && t.valid2 && aimed(values, m, t).inside1
 }
 
 // The differential value for the set point s.
@@ -128,7 +115,6 @@ pub fn within(values: [u32; 39], m: Measurement, t: Targets) -> bool
 pub fn difference(values: [u32; 39], m: Measurement, s: u32) -> i64
     ensures { result ≡ difference_of values m s }
 {
-    let w = position::view(values, m);
-    let reversed = values[Setting::DIFFERENCE] == 1;
-    signed::differential(w.actual, signed::number(s), reversed)
+    let actual = position::view(values, m).actual;
+    signed::differential(actual, signed::number(s), values[Setting::DIFFERENCE] == 1)
 }

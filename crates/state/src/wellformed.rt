@@ -1,4 +1,5 @@
-// Whether a state is one that a head can be in: the clauses of refusal 20.
+// Whether a state is one that a head can be in: the clauses of refusal 20. They are joined by `&`: with `&&` each is a branch, and a byte call takes 10
+// instructions more for each head of the line.
 ghost use Rattle.std.specs.Prelude.{◌≡◌, Bool};
 ghost use Rattle.state.specs.Wellformed.{in_reach_of, offer_fits, stored_fits, faults_fit, kept_fits, measurement_fits, ear_fits, wellformed_of};
 
@@ -9,7 +10,7 @@ use crate::parts::{Ear, Faults, Head, Measurement, Stored};
 pub fn in_reach(m: i32) -> bool
     ensures { result ≡ in_reach_of m }
 {
-    (-2500000 <= m) & (m <= 2500000)
+    (-2500000..=2500000).contains(&m)
 }
 
 // A number that is offered is 1 to 31, and the number in force is 31.
@@ -17,24 +18,21 @@ pub fn in_reach(m: i32) -> bool
 fn offer(number: u32, offered: u32) -> bool
     ensures { result ≡ offer_fits number offered }
 {
-    (offered == 0) | ((offered <= 31) & (number == 31))
+    offered == 0 || (offered <= 31 && number == 31)
 }
 
 #[tactic(auto, unfolding(crate::specs::Wellformed::stored_fits))]
 fn stored(s: Stored) -> bool
     ensures { result ≡ stored_fits s }
 {
-    let v = s.values;
-    rows::range::all_right(v) & (rows::range::fits_at(0, s.number) & offer(s.number, s.offer))
+    rows::range::all_right(s.values) & rows::range::fits_at(0, s.number) & offer(s.number, s.offer)
 }
 
 #[tactic(auto, unfolding(crate::specs::Wellformed::faults_fit))]
 fn faults(f: Faults) -> bool
     ensures { result ≡ faults_fit f }
 {
-    let m = f.memory;
-    let i = f.inputs;
-    (m.count <= 10) & ((i.count <= 10) & (f.damaged <= 2))
+    (f.memory.count <= 10) & (f.inputs.count <= 10) & (f.damaged <= 2)
 }
 
 #[tactic(auto, unfolding(crate::specs::Wellformed::kept_fits))]
@@ -48,9 +46,12 @@ fn kept(v: i64) -> bool
 fn measurement(m: Measurement) -> bool
     ensures { result ≡ measurement_fits m }
 {
-    let adopted = rows::range::fits_at(19, m.adopted);
     !m.incremental
-        & (in_reach(m.m) & (in_reach(m.zero) & (in_reach(m.start) & (adopted & kept(m.kept)))))
+        & in_reach(m.m)
+        & in_reach(m.zero)
+        & in_reach(m.start)
+        & rows::range::fits_at(19, m.adopted)
+        & kept(m.kept)
 }
 
 #[tactic(auto, unfolding(crate::specs::Wellformed::ear_fits))]
@@ -64,9 +65,5 @@ fn ear(e: Ear) -> bool
 pub fn wellformed(h: Head) -> bool
     ensures { result ≡ wellformed_of h }
 {
-    let s = stored(h.stored);
-    let f = faults(h.faults);
-    let m = measurement(h.measurement);
-    let e = ear(h.ear);
-    s & (f & (m & (e & (h.keys <= 7))))
+    stored(h.stored) & faults(h.faults) & measurement(h.measurement) & ear(h.ear) & (h.keys <= 7)
 }

@@ -1,11 +1,11 @@
 pub mod Spelled
 pub mod Bare
 pub mod Filled
-pub mod Moved
-pub mod Leads
 pub mod Begun
 pub mod Pieces
-pub mod Closed
 pub mod Newlines
 pub mod Laid
 pub mod Kept
+pub mod Found
+pub mod TakenIn
+pub mod ReadOn

@@ -3,3 +3,4 @@ pub mod Numbers
 pub mod Lines
 pub mod Laid
 pub mod Reading
+pub mod Keeping

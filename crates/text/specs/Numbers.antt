@@ -1,11 +1,7 @@
 -- What a word's characters say as a number or as bytes. Values are computed without a bound, and tested against one afterwards.
 -- Assumes nothing.
-use Rattle.std.specs.Prelude.{ℕ, ◌+◌, ◌-◌, ◌*◌, Bool, true, false, ◌&&◌, cond, List, [], ◌∷◌, leb, ltb, eqb, pos, neg_ℤ, length, get_or, drop}
+use Rattle.std.specs.Prelude.{ℕ, ◌+◌, ◌-◌, ◌*◌, Bool, true, false, ◌&&◌, cond, List, [], ◌∷◌, leb, eqb, pos, neg_ℤ, length, get_or, drop, Some, None, Option, is_some, ℤ}
 use Prim.Native.Char.{code}
-use Rattle.text.specs.declared.numbers.Number.{Number}
-use Rattle.text.specs.declared.numbers.Number.TheVariants as number
-use Rattle.text.specs.declared.numbers.Value.{Value}
-use Rattle.text.specs.declared.numbers.Value.TheVariants as value
 
 -- `c` is from `low` to `high`
 abbrev pub within : ℕ → ℕ → ℕ → Bool
@@ -30,32 +26,41 @@ abbrev pub value_of : List ℕ → ℕ
 value_of cs = value_from 0 cs
 
 -- the number that decimal digits stand for, where it is at most the limit
-unfoldable pub number_of : ℕ → List ℕ → Number
-number_of limit cs = cond (is_decimal cs && leb (value_of cs) limit) (number.Is (value_of cs)) number.Unfit
+unfoldable pub number_of : ℕ → List ℕ → Option ℕ
+number_of limit cs = cond (is_decimal cs && leb (value_of cs) limit) (Some (value_of cs)) None
 
 -- a number and its negative
-abbrev pub plain : Number → Value
-plain (number.Is n) = value.Is (pos n)
-plain number.Unfit = value.Unfit
+abbrev pub plain : Option ℕ → Option ℤ
+plain (Some n) = Some (pos n)
+plain None = None
 
-abbrev pub negative : Number → Value
-negative (number.Is n) = value.Is (neg_ℤ (pos n))
-negative number.Unfit = value.Unfit
+abbrev pub negative : Option ℕ → Option ℤ
+negative (Some n) = Some (neg_ℤ (pos n))
+negative None = None
 
 -- decimal digits after one minus sign or none, of a number from -2147483648 to 2147483647
-unfoldable pub signed_of : List ℕ → Value
+unfoldable pub signed_of : List ℕ → Option ℤ
 signed_of cs = cond (eqb (get_or cs 0 0) (code "-")) (negative (number_of 2147483648 (drop 1 cs))) (plain (number_of 2147483647 cs))
 
--- the value of a hex digit in either case, and 16 for any other character
-unfoldable pub hex_of : ℕ → ℕ
+-- the value of a hex digit in either case
+unfoldable pub hex_of : ℕ → Option ℕ
 hex_of c =
-    cond (within (code "0") (code "9") c) (c - code "0")
-    (cond (within (code "A") (code "F") c) (10 + (c - code "A"))
-    (cond (within (code "a") (code "f") c) (10 + (c - code "a"))
-    16))
+    cond (within (code "0") (code "9") c) (Some (c - code "0"))
+    (cond (within (code "A") (code "F") c) (Some (10 + (c - code "A")))
+    (cond (within (code "a") (code "f") c) (Some (10 + (c - code "a")))
+    None))
 
 abbrev pub is_hex : ℕ → Bool
-is_hex c = ltb (hex_of c) 16
+is_hex c = is_some (hex_of c)
+
+-- the byte of a high digit and a low one, 0 where one is none
+abbrev pub byte_of : Option ℕ → Option ℕ → ℕ
+byte_of (Some a) (Some b) = 16 * a + b
+byte_of (Some a) None = 0
+byte_of None b = 0
+
+unfoldable pub pair_of : ℕ → ℕ → ℕ
+pair_of a b = byte_of (hex_of a) (hex_of b)
 
 -- the characters are two hex digits for each byte
 abbrev pub in_pairs : List ℕ → Bool
@@ -67,11 +72,7 @@ in_pairs (a ∷ b ∷ cs) = is_hex a && is_hex b && in_pairs cs
 abbrev pub bytes_of : List ℕ → List ℕ
 bytes_of [] = []
 bytes_of (a ∷ []) = []
-bytes_of (a ∷ b ∷ cs) = (16 * hex_of a + hex_of b) ∷ bytes_of cs
-
--- the byte of two characters, 0 where one is no hex digit
-unfoldable pub pair_of : ℕ → ℕ → ℕ
-pair_of a b = cond (is_hex a && is_hex b) (16 * hex_of a + hex_of b) 0
+bytes_of (a ∷ b ∷ cs) = pair_of a b ∷ bytes_of cs
 
 -- how many bytes the characters stand for, 0 where they are not two hex digits for each
 unfoldable pub count_of : List ℕ → ℕ

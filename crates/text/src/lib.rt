@@ -2,6 +2,8 @@
 // of pieces.
 #![tactic(auto)]
 
+pub mod failing;
+pub mod keeping;
 pub mod laying;
 pub mod lines;
 pub mod numbers;

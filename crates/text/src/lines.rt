@@ -2,7 +2,8 @@
 ghost use Rattle.std.specs.Prelude.{◌≡◌, length, drop};
 ghost use Rattle.text.specs.Lines.{bare_of, front_of, taken_of, filled_of};
 
-// What was taken of a piece of text: how much of the line is kept then, where the piece goes on, and whether the line has ended.
+// What was taken of a piece of text: how much of the line is kept then, where the piece goes on, and whether the line has ended: `at` is told of a
+// line that has not ended too, so that it is no `Option` (`taken_of`).
 #[derive(Clone, Copy)]
 pub struct Taken {
     pub kept: usize,
@@ -15,12 +16,10 @@ pub struct Taken {
 pub fn bare_length(line: &[u8]) -> usize
     ensures { result ≡ length (bare_of line.now) }
 {
-    let n = line.len();
-    if n == 0 {
-        return 0;
+    match line {
+        [bare @ .., b'\r'] => bare.len(),
+        _ => line.len(),
     }
-    let end = n - 1;
-    if line[end] == b'\r' { end } else { n }
 }
 
 // The bytes of a piece from a place on, up to and with the next newline, taken into the line of which some is kept. What has no room is dropped.
@@ -28,26 +27,24 @@ pub fn take_in(line: &mut [u8], kept: usize, piece: &[u8], from: usize) -> Taken
     ensures value { result ≡ taken_of (length line.old) kept piece.now from }
     ensures line_after { line.new ≡ filled_of line.old kept (front_of (drop from piece.now)) }
 {
+    let rest = piece.get(from..).unwrap_or(&[]);
     let mut k = kept;
-    let mut i = from;
-    while i < piece.len() {
-        let b = piece[i];
-        i += 1;
-        if b == b'\n' {
+    for (i, b) in rest.iter().enumerate() {
+        if *b == b'\n' {
             return Taken {
                 kept: k,
-                at: i,
+                at: from + i + 1,
                 ended: true,
             };
         }
         if k < line.len() {
-            line[k] = b;
+            line[k] = *b;
             k += 1;
         }
     }
     Taken {
         kept: k,
-        at: i,
+        at: from + rest.len(),
         ended: false,
     }
 }

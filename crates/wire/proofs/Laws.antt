@@ -1,17 +1,16 @@
 -- Laws of words, check sums and telegrams: round trips, and what is built passes its own check.
 -- Assumes nothing.
-use Prim.Native.Nat.{ℕ, ◌+◌, ◌/◌, ◌<◌, ◌≤◌}
+use Prim.Native.Nat.{ℕ, ◌/◌, ◌<◌}
 use native.Mathlib.Nat.{div-add-mod'}
-use native.Mathlib.Numerals.{add-one}
 use native.Mathlib.Omega.{arith}
 use mathlib.Core.Path.{◌≡◌, refl, ◌∙◌}
-use mathlib.Core.List.{List, [], ◌∷◌, ◌++◌}
-use lib.ListN.{length, drop, get_or, drop_of_length-le}
-use lib.Seq.{drop-cons}
+use mathlib.Core.List.{List, [], ◌∷◌}
+use lib.ListN.{length}
 use lib.Bits.{bit_xor, xor_self}
+use Rattle.std.proofs.lemmas.List.Sums.{fold-append}
 use Rattle.wire.specs.declared.telegram.Telegram.{Telegram}
 use Rattle.wire.specs.Word.{half_of, whole_of, byte0, byte1, byte2, byte3}
-use Rattle.wire.specs.Check.{xor_onto, xor_all, hit_of, with_check}
+use Rattle.wire.specs.Check.{xor_all, hit_of, with_check}
 use Rattle.wire.specs.Telegram.{fields_of, nine_of, bytes_of, Fits}
 
 -- the bytes of a word make the word
@@ -29,22 +28,9 @@ module _ (b0 b1 b2 b3 : ℕ) (h0 : b0 < 256) (h1 : b1 < 256) (h2 : b2 < 256) (h3
 pub bytes_half : (b0 b1 : ℕ) → b0 < 256 → b1 < 256 → (byte2 (half_of b0 b1) ≡ b0) × (byte3 (half_of b0 b1) ≡ b1)
 bytes_half b0 b1 h0 h1 = (omega arith, omega arith)
 
--- the exclusive-or of a list goes on over what is appended
-pub onto_append : (a : ℕ) (bs cs : List ℕ) → xor_onto a (bs ++ cs) ≡ xor_onto (xor_onto a bs) cs
-onto_append a [] cs = refl
-onto_append a (b ∷ bs) cs = onto_append (bit_xor a b) bs cs
-
 -- bytes that are sent with their exclusive-or pass the check
 pub check_passes : (bs : List ℕ) → xor_all (with_check bs) ≡ 0
-check_passes bs = onto_append 0 bs (xor_all bs ∷ []) ∙ xor_self (xor_all bs)
-
--- a loop's turn takes one byte more, and ends where there is none left
-module _ (a : ℕ) (bs : List ℕ) (i : ℕ) {t : ℕ} (so : xor_onto a (drop i bs) ≡ t) where
-  pub onto_next : i < length bs → xor_onto (bit_xor a (get_or bs i 0)) (drop (i + 1) bs) ≡ t
-  onto_next h = rw add-one (rw (drop-cons bs i 0) at so)
-
-  pub onto_done : length bs ≤ i → a ≡ t
-  onto_done h = rw (drop_of_length-le bs h) at so
+check_passes bs = fold-append bit_xor 0 bs (xor_all bs ∷ []) ∙ xor_self (xor_all bs)
 
 -- whatever is built of fields is sound
 pub built_sound : (t : Telegram) → hit_of (bytes_of t) ≡ 0

@@ -1,12 +1,11 @@
 -- The check sum (document 01, "Ten bytes"; manual 6.3.7).
 -- Assumes nothing.
-use Rattle.std.specs.Prelude.{ℕ, List, [], ◌∷◌, ◌++◌}
+use Rattle.std.specs.Prelude.{ℕ, List, [], ◌∷◌, ◌++◌, fold}
 use Rattle.std.specs.Int.Bits.{bit_xor}
 
 -- the exclusive-or of a and all bytes, from the left
 abbrev pub xor_onto : ℕ → List ℕ → ℕ
-xor_onto a [] = a
-xor_onto a (b ∷ bs) = xor_onto (bit_xor a b) bs
+xor_onto a bs = fold bit_xor a bs
 
 abbrev pub xor_all : List ℕ → ℕ
 xor_all bs = xor_onto 0 bs

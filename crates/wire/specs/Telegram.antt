@@ -1,6 +1,6 @@
 -- A telegram's fields (document 01, "Ten bytes"): command, node, parameter, control word, data, check sum.
 -- Assumes nothing.
-use Rattle.std.specs.Prelude.{ℕ, ◌<◌, List, [], ◌∷◌, get_or}
+use Rattle.std.specs.Prelude.{ℕ, ◌<◌, List, [], ◌∷◌, get_or, replicate, Some, None, Option}
 use Rattle.wire.specs.declared.telegram.Telegram.{Telegram}
 use Rattle.wire.specs.Word.{half_of, whole_of, byte0, byte1, byte2, byte3}
 use Rattle.wire.specs.Check.{with_check}
@@ -27,6 +27,11 @@ nine_of t =
 
 unfoldable pub bytes_of : Telegram → List ℕ
 bytes_of t = with_check (nine_of t)
+
+-- the ten bytes, where there are ten, and else all 0
+abbrev pub ten_in : Option (List ℕ) → List ℕ
+ten_in (Some ten) = ten
+ten_in None = replicate 10 0
 
 -- each field is one that its bytes can hold
 pub record Fits (t : Telegram) : Type 0 where

@@ -6,17 +6,12 @@ ghost use Rattle.wire.specs.Check.{xor_all, hit_of};
 fn exclusive_or(b: &[u8]) -> u8
     ensures { result ≡ xor_all b.now }
 {
-    let mut x: u8 = 0;
-    let mut i = 0;
-    while i < b.len() {
-        x = x ^ b[i];
-        i += 1;
-    }
-    x
+    b.iter().fold(0, |x, byte| x ^ byte)
 }
 
 // The check of ten bytes: the exclusive-or of them all shows which bits were hit, and 0 means sound. Whoever asks whether a telegram is
 // undamaged asks here.
+#[tactic(auto, unfolding(crate::specs::Check::hit_of))]
 pub fn hit(ten: [u8; 10]) -> u8
     ensures { result ≡ hit_of ten }
 {

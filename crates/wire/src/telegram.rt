@@ -16,28 +16,27 @@ pub struct Telegram {
 }
 
 // The fields of ten bytes.
+#[tactic(auto, unfolding(crate::specs::Telegram::fields_of))]
 pub fn fields(b: [u8; 10]) -> Telegram
     ensures { result ≡ fields_of b }
 {
+    let [command, node, parameter, c3, c4, d5, d6, d7, d8, _] = b;
     Telegram {
-        command: b[0],
-        node: b[1],
-        parameter: b[2],
-        word: word::half(b[3], b[4]),
-        value: word::whole(b[5], b[6], b[7], b[8]),
+        command,
+        node,
+        parameter,
+        word: word::half(c3, c4),
+        value: word::whole(d5, d6, d7, d8),
     }
 }
 
 // Ten bytes of these fields, the check sum last.
+#[tactic(auto, unfolding(crate::specs::Telegram::bytes_of))]
 pub fn bytes(t: Telegram) -> [u8; 10]
     ensures { result ≡ bytes_of t }
 {
-    let c3 = word::high(t.word);
-    let c4 = word::low(t.word);
-    let d5 = word::first(t.value);
-    let d6 = word::second(t.value);
-    let d7 = word::third(t.value);
-    let d8 = word::fourth(t.value);
+    let [c3, c4] = t.word.to_be_bytes();
+    let [d5, d6, d7, d8] = t.value.to_be_bytes();
     let x = t.command ^ t.node ^ t.parameter ^ c3 ^ c4 ^ d5 ^ d6 ^ d7 ^ d8;
     [t.command, t.node, t.parameter, c3, c4, d5, d6, d7, d8, x]
 }

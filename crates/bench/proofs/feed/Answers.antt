@@ -14,13 +14,8 @@ moved bytes i h head s inside is inv =
     ∙ (rw add-one (sym (ap (fed_of head) (drop-cons bytes i 0 inside))))
     ∙ inv
 
-pub loop-i-preserved-then-s : goal.loop-i-preserved-then-s
-loop-i-preserved-then-s g c =
-    (omega arith, moved c.args.bytes.now c.loop-i.i c.args.h c.loop-i.head c.speak-s.result (omega arith) c.speak-s.ensures c.loop-i.invariant.1)
-
-pub loop-i-preserved : goal.loop-i-preserved
-loop-i-preserved g c =
-    (omega arith, moved c.args.bytes.now c.loop-i.i c.args.h c.loop-i.head c.speak-s.result (omega arith) c.speak-s.ensures c.loop-i.invariant.1)
+pub loop-b-preserved : goal.loop-b-preserved
+loop-b-preserved g c = moved c.args.bytes.now c.loop-b.b-index c.args.head.now c.loop-b.head c.speak-s.result (omega arith) c.speak-s.ensures c.loop-b.invariant
 
 -- past the last byte nothing is left
 ended : (bytes : List ℕ) (i : ℕ) (h head : Head) → i ≡ length bytes → fed_of head (drop i bytes) ≡ fed_of h bytes → head ≡ fed_of h bytes
@@ -28,4 +23,4 @@ unfolding fed_of
 ended bytes i h head e inv = sym (ap (fed_of head) (ap (λ (n : ℕ). drop n bytes) e ∙ drop-length bytes)) ∙ inv
 
 pub returns : goal.returns
-returns g c = ended c.args.bytes.now c.loop-i.i c.args.h c.loop-i.head (omega arith) c.loop-i.invariant.1
+returns g c = ended c.args.bytes.now c.loop-b.b-index c.args.head.now c.loop-b.head (omega arith) c.loop-b.invariant

@@ -1,5 +1,5 @@
 -- The space has ten bytes before and after the call, so that twenty digits and the newline are the line.
-use Rattle.std.proofs.Common.{◌≡◌, Bool, List, ℕ, ap, ◌∙◌}
+use Rattle.std.proofs.Common.{◌≡◌, List, ℕ, refl, ap, ◌∙◌, Option, Some}
 use Rattle.state.specs.declared.parts.Head.{Head}
 use Rattle.head.specs.declared.calls.Fed.{Fed}
 use Rattle.hex_digits.specs.Digits.{line_of}
@@ -8,15 +8,19 @@ use Rattle.bench.specs.Bench.{replied_of, spoken_of}
 use Rattle.bench.specs.declared.Spoken.{Spoken}
 use Rattle.bench.proofs.speak.Goals as goal
 
--- the three parts make the whole
-whole : {h g : Head} {a b : Bool} {l m : List ℕ} → h ≡ g → a ≡ b → l ≡ m
-    → ◌≡◌ {A = Spoken} (record { head = h; replied = a; line = l }) (record { head = g; replied = b; line = m })
-whole p q r = rw (p, q, r)
+-- the two parts make the whole
+whole : {h g : Head} {l m : Option (List ℕ)} → h ≡ g → l ≡ m → ◌≡◌ {A = Spoken} (record { head = h; reply = l }) (record { head = g; reply = m })
+whole p q = rw (p, q)
 
-pub returns : goal.returns
+pub returns-then-replied : goal.returns-then-replied
 unfolding spoken_of
-returns c =
-    whole
-    (ap (λ (r : Fed). r.head) c.byte-f.ensures.value)
-    (c.replied.ensures ∙ ap (λ (r : Fed). replied_of r.heard) c.byte-f.ensures.value)
-    (c.spell.ensures ∙ ten_line c.byte-f.new.space c.byte-f.auto.space ∙ ap line_of c.byte-f.ensures.space_after)
+returns-then-replied c =
+    let line = c.spell.ensures ∙ ten_line c.byte-f.new.space c.byte-f.auto.space ∙ ap line_of c.byte-f.ensures.space_after in
+    let is = c.if-replied.ensures ∙ ap (λ (r : Fed). replied_of r.heard) c.byte-f.ensures.value in
+    whole (ap (λ (r : Fed). r.head) c.byte-f.ensures.value) (rw (← is) (ap Some line))
+
+pub returns-else-replied : goal.returns-else-replied
+unfolding spoken_of
+returns-else-replied c =
+    let is = c.if-replied.ensures ∙ ap (λ (r : Fed). replied_of r.heard) c.byte-f.ensures.value in
+    whole (ap (λ (r : Fed). r.head) c.byte-f.ensures.value) (rw (← is) refl)

@@ -1,76 +1,57 @@
-use Rattle.std.proofs.Common.{◌≡◌, ◌+◌, ◌*◌, ◌≤◌, ◌<◌, length, refl, sym, arith, rules}
-use Rattle.line.proofs.Laws.{fits_small, unheard, heard_turn, heard_few}
-use Rattle.rack.proofs.Whole.{told}
-use Rattle.rack.proofs.Rounds.{dropped_keeps, dropped_ready}
+use Rattle.std.proofs.Common.{◌≡◌, ◌++◌, drop, ◌+◌, ◌*◌, ◌≤◌, ◌<◌, ◌/◌, length, ◌∙◌, arith, rules}
+use Rattle.line.specs.declared.calls.Line.{Line}
+use Rattle.line.specs.Round.{tally, replies_by}
+use Rattle.line.proofs.Laws.{fits_small, each_map, replies_first}
+use Rattle.rack.specs.Rack.{dropped_of}
+use Rattle.rack.proofs.Whole.{told, told_line}
+use Rattle.rack.proofs.Rounds.{chunk_at, here, dropped_part, dropped_ready}
 use Rattle.rack.proofs.Turns.{going_start, going_one, going_none, going_many, going_end}
 use Rattle.rack.proofs.Ways.{rack_told}
 use Rattle.rack.proofs.feed.Goals as goal
-use Rattle.rack.proofs.feed.Goals.{then-s, else-s}
+use Rattle.rack.proofs.feed.Goals.{then-drawn-eq1, else-drawn-eq1+then-drawn-gt1, else-drawn-eq1+else-drawn-gt1}
 
-pub dropped-k-requires : goal.dropped-k-requires
-dropped-k-requires c = fits_small c.args.line c.requires.line_value
+pub slice_bounds-heads-end : goal.slice_bounds-heads-end
+slice_bounds-heads-end c = let p : c.args.line.count ≤ 32 = fits_small c.args.line c.requires.line_value in search rules
 
-pub loop-t-init : goal.loop-t-init
-loop-t-init c =
+pub slice_bounds-drop_bytes-end : goal.slice_bounds-drop_bytes-end
+slice_bounds-drop_bytes-end c = let p : c.args.line.count ≤ 32 = fits_small c.args.line c.requires.line_value in search rules
+
+pub slice_bounds-heads-end-in-loop-ten : goal.slice_bounds-heads-end-in-loop-ten
+slice_bounds-heads-end-in-loop-ten c = let p : c.args.line.count ≤ 32 = fits_small c.args.line c.requires.line_value in search rules
+
+pub slice_bounds-told-end : goal.slice_bounds-told-end
+slice_bounds-told-end c = let p : c.args.line.count ≤ 32 = fits_small c.args.line c.requires.line_value in search rules
+
+pub loop-ten-init : goal.loop-ten-init
+loop-ten-init c =
     let a = c.args in
-    let q = rack_told _ c.requires.bytes_value in (
-      omega arith,
-      omega (arith, q.1),
-      omega (arith, q.0),
-      fits_small a.line c.requires.line_value,
-      rw c.dropped-k.ensures (sym (dropped_keeps a.line a.at).count),
-      search rules,
-      going_start _ _ _ _ (rw c.dropped-k.ensures (dropped_ready a.line a.at c.requires.line_value)),
-    )
-
-pub loop-i-init : goal.loop-i-init
-loop-i-init c = (omega arith, unheard _ _ refl)
-
-pub overflow_add-drawn : goal.overflow_add-drawn
-overflow_add-drawn c = omega (arith, heard_few c.loop-i.invariant.1)
-
--- a reply is counted, or none
-pub loop-i-preserved : goal.loop-i-preserved
-loop-i-preserved c =
-    let k = c.loop-i in
-    let v = c.loop-t.invariant in
-    let p : k.i < length c.loop-t.k.heads = omega (arith, v.5, v.6.places) in (
-      omega arith,
-      heard_turn (told c.telegram-ten.result c.args.at) c.loop-t.k k.i k.k _ k.invariant.1 p _ c.tell-s.result c.tell-s.ensures _ refl _
-          (elim c.if-s.branch [
-            | then-s w ↦ rw (w.drawn-is, w.last-is, w.if-s.true)
-            | else-s w ↦ rw (w.drawn-is, w.last-is, w.if-s.false)
-          ]),
-    )
+    rw (c.drop_bytes.ensures, dropped_part a.line a.at) (going_start a.bytes.now a.at (dropped_of a.line a.at) a.space.now (dropped_ready a.line a.at c.requires.line_value))
 
 -- every head was told the telegram: just one reply, several, or none
-pub loop-t-preserved-then-drawn-eq1 : goal.loop-t-preserved-then-drawn-eq1
-loop-t-preserved-then-drawn-eq1 c =
-    let v = c.loop-t.invariant in
-    let p : 10 * c.loop-t.t + 10 ≤ length c.args.bytes.now = omega (arith, c.loop-t-test.true, v.2) in
-    let n : c.loop-i.i ≡ c.loop-t.k.count = omega (arith, c.loop-i-test.false, c.loop-i.invariant.0, v.4, v.6.count) in
-    let h = rw (n, c.telegram-ten.ensures) at c.loop-i.invariant.1 in
-    (omega (arith, c.loop-t-test.true), v.1, v.2, v.3, v.4, v.5, going_one _ _ v.6 p h c.if-drawn-eq1.true c.lay.ensures c.lay.auto.space)
-
-pub loop-t-preserved-then-drawn-gt1 : goal.loop-t-preserved-then-drawn-gt1
-loop-t-preserved-then-drawn-gt1 c =
-    let v = c.loop-t.invariant in
-    let p : 10 * c.loop-t.t + 10 ≤ length c.args.bytes.now = omega (arith, c.loop-t-test.true, v.2) in
-    let n : c.loop-i.i ≡ c.loop-t.k.count = omega (arith, c.loop-i-test.false, c.loop-i.invariant.0, v.4, v.6.count) in
-    let h = rw (n, c.telegram-ten.ensures) at c.loop-i.invariant.1 in
-    (omega (arith, c.loop-t-test.true), v.1, v.2, v.3, v.4, v.5, going_many _ _ v.6 p h c.if-drawn-gt1.true)
-
-pub loop-t-preserved : goal.loop-t-preserved
-loop-t-preserved c =
-    let v = c.loop-t.invariant in
-    let p : 10 * c.loop-t.t + 10 ≤ length c.args.bytes.now = omega (arith, c.loop-t-test.true, v.2) in
-    let n : c.loop-i.i ≡ c.loop-t.k.count = omega (arith, c.loop-i-test.false, c.loop-i.invariant.0, v.4, v.6.count) in
-    let h = rw (n, c.telegram-ten.ensures) at c.loop-i.invariant.1 in
-    let z : c.loop-i.drawn ≡ 0 = omega (arith, c.if-drawn-eq1.false, c.if-drawn-gt1.false) in
-    (omega (arith, c.loop-t-test.true), v.1, v.2, v.3, v.4, v.5, going_none _ _ v.6 p h z)
+pub loop-ten-preserved : goal.loop-ten-preserved
+loop-ten-preserved c =
+    let a = c.args in
+    let v = c.loop-ten in
+    let t = v.ten-index in
+    let k : Line = record { heads = v.heads; count = a.line.count } in
+    let e = c.told-drawn.ensures in
+    let chunks = c.as_chunks.ensures in
+    let whole = rack_told _ c.requires.bytes_value in
+    let lt : t < length a.bytes.now / 10 = omega (arith, chunks.front_len, c.loop-ten-test.true) in
+    let p : 10 * t + 10 ≤ length a.bytes.now = omega (arith, lt) in
+    let q : 10 * (length a.bytes.now / 10) ≤ length a.bytes.now = omega arith in
+    let heard : record { heads = c.told-drawn.new.heads ++ drop a.line.count v.heads; count = a.line.count } ≡ told_line k (here a.bytes.now a.at t) a.at = rw (e.1, chunks.front, chunk_at, each_map) in
+    let drawn : c.told-drawn.result ≡ tally (replies_by (told (here a.bytes.now a.at t) a.at) k.count k.heads) = e.0 ∙ rw (chunks.front, chunk_at, replies_first) in
+    elim c.if-drawn-eq1.branch [
+      | then-drawn-eq1 w ↦ rw (w.tally-is, w.space-is) (going_one _ _ v.invariant p heard drawn w.if-drawn-eq1.true w.lay.ensures w.lay.auto.space)
+      | else-drawn-eq1+then-drawn-gt1 w ↦ rw (w.tally-is, w.space-is) (going_many _ _ v.invariant p heard drawn w.if-drawn-gt1.true)
+      | else-drawn-eq1+else-drawn-gt1 w ↦
+          let z : c.told-drawn.result.count ≡ 0 = omega (arith, w.if-drawn-eq1.false, w.if-drawn-gt1.false) in
+          rw (w.tally-is, w.space-is) (going_none _ _ v.invariant p heard drawn z)
+    ]
 
 pub returns : goal.returns
 returns c =
-    let v = c.loop-t.invariant in
-    let e = rw c.dropped-k.ensures at (going_end _ _ v.6 (omega (arith, c.loop-t-test.false, v.2))) in
+    let whole = rack_told _ c.requires.bytes_value in
+    let e = going_end _ _ c.loop-ten.invariant (omega (arith, c.as_chunks.ensures.front_len, c.loop-ten-test.false)) in
     record { value = e.0; space_after = e.1 }

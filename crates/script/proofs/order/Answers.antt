@@ -1,24 +1,22 @@
 -- `script::order` meets its contract: the arguments are read as the row says, and the row makes the command of them.
-use mathlib.Core.Path.{◌≡◌, sym, ap, ◌∙◌}
-use mathlib.Core.Bool.{Bool, cond}
-use mathlib.Core.List.{List}
-use Rattle.script.specs.declared.Command.TheVariants.{Malformed}
+use Rattle.std.proofs.Common.{◌≡◌, ◌∙◌, List, Option}
 use Rattle.script.specs.declared.Name.{Name}
-use Rattle.script.specs.declared.arguments.Takes.{Takes}
 use Rattle.script.specs.declared.arguments.Arguments.{Arguments}
+use Rattle.script.specs.declared.arguments.Last.{Last}
 use Rattle.script.specs.Words.{Word}
 use Rattle.script.specs.Arguments.{arguments_of}
-use Rattle.script.specs.Meaning.{row_of, order_of}
+use Rattle.script.specs.Meaning.{row_of, if_fit, order_of}
 use Rattle.script.proofs.order.Goals as goal
+use Prim.Native.Nat.{ℕ}
 
 -- by whether the words fit
-ordered : (n : Name) (ws : List Word) {t : Takes} {a : Arguments} {b : Bool} → t ≡ (row_of n).takes → a ≡ arguments_of t ws → a.fit ≡ b
-    → cond b ((row_of n).made a) Malformed ≡ order_of n ws
+ordered : (n : Name) (ws : List Word) {limits : List ℕ} {after : Last} {a r : Option Arguments} → limits ≡ (row_of n).limits → after ≡ (row_of n).last
+    → a ≡ arguments_of limits after ws → a ≡ r → if_fit r (row_of n).made ≡ order_of n ws
 unfolding order_of
-ordered n ws {a = a} p q e = ap (λ (x : Bool). cond x ((row_of n).made a) Malformed) (sym e) ∙ rw (q, p)
+ordered n ws p q e f = rw (← f, e, p, q)
 
-pub returns-then-a : goal.returns-then-a
-returns-then-a c = c.made.ensures ∙ ordered _ _ c.takes.ensures c.read-a.ensures c.if-a.true
+pub returns-in-Some : goal.returns-in-Some
+returns-in-Some c = c.made.ensures ∙ ordered _ _ c.takes.ensures.limits c.takes.ensures.last c.read.ensures c.in-Some.is
 
-pub returns-else-a : goal.returns-else-a
-returns-else-a c = ordered _ _ c.takes.ensures c.read-a.ensures c.if-a.false
+pub returns-in-None : goal.returns-in-None
+returns-in-None c = ordered _ _ c.takes.ensures.limits c.takes.ensures.last c.read.ensures c.in-None.is

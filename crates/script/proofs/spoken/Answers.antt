@@ -1,6 +1,7 @@
 -- `script::spoken` meets its contract: each kind of line is a case of the definition, and what is spoken goes by its first word.
+use Rattle.std.specs.Prelude.{Option}
 use Prim.Native.Nat.{ℕ}
-use mathlib.Core.Path.{◌≡◌, refl, ap, ◌∙◌}
+use mathlib.Core.Path.{◌≡◌, refl, sym, ap, ◌∙◌}
 use mathlib.Core.Bool.{cond}
 use mathlib.Core.List.{List, [], ◌∷◌}
 use lib.Dec.{ltb}
@@ -13,13 +14,13 @@ use Rattle.script.specs.declared.words.Kind.TheVariants.{Spoken}
 use Rattle.script.specs.Words.{Word, words_of}
 use Rattle.script.specs.Places.{words_at, after_of, first_of}
 use Rattle.script.specs.Kinds.{kind_of, longest, unless_passed}
-use Rattle.script.specs.Meaning.{name_of, order_of, command_of, spoken_of}
+use Rattle.script.specs.Meaning.{if_named, name_of, command_of, spoken_of}
 use Rattle.script.proofs.ByKind.{by_kind, comes_to}
 use Rattle.script.proofs.spoken.Goals as goal
 
 -- what is spoken, as the definition has it
 abbrev ordering : Word → List Word → Command
-ordering w ws = order_of (name_of w.chars) ws
+ordering w ws = if_named (name_of w.chars) ws
 
 passed_over : (ws : List Word) → unless_passed Blank ordering ws ≡ command_of ws
 unfolding command_of
@@ -31,8 +32,8 @@ unfolding spoken_of
 spoken_is l = ap (λ (x : Command). cond (ltb longest (length l)) Malformed x) (passed_over (words_of l))
 
 -- the order that the first word and the words past it make
-ordered : (l : List ℕ) {k : Kind} {at next : ℕ} {n : Name} {f : List ℕ} → k ≡ kind_of l → k ≡ Spoken at → n ≡ name_of f → f ≡ first_of (words_at l 0)
-    → next ≡ after_of l 0 → order_of n (words_at l next) ≡ spoken_of l
+ordered : (l : List ℕ) {k : Kind} {at next : ℕ} {n : Option Name} {f : List ℕ} → k ≡ kind_of l → k ≡ Spoken at → n ≡ name_of f
+    → f ≡ first_of (words_at l 0) → next ≡ after_of l 0 → if_named n (words_at l next) ≡ spoken_of l
 ordered l {k} e s name first after =
     let t = by_kind Malformed Blank ordering l k e s in
     rw (name, first, after, t.1) (t.0 ∙ spoken_is l)
@@ -43,6 +44,11 @@ returns-in-Long c = by_kind Malformed Blank ordering _ _ c.kind_of.ensures c.in-
 pub returns-in-Passed : goal.returns-in-Passed
 returns-in-Passed c = by_kind Malformed Blank ordering _ _ c.kind_of.ensures c.in-Passed.is ∙ spoken_is _
 
-pub returns-in-Spoken : goal.returns-in-Spoken
-returns-in-Spoken c = c.order.ensures
-    ∙ ordered _ c.kind_of.ensures c.in-Spoken.is c.named-name.ensures c.first.ensures c.after-next.ensures
+pub returns-in-Some : goal.returns-in-Some
+returns-in-Some c =
+    c.order.ensures
+    ∙ rw c.after.ensures.line (ordered _ c.kind_of.ensures c.in-Spoken.is (sym c.in-Some.is ∙ c.named.ensures) c.first.ensures c.after.ensures.from)
+
+pub returns-in-None : goal.returns-in-None
+returns-in-None c =
+    ordered c.args.line.now {next = after_of c.args.line.now 0} c.kind_of.ensures c.in-Spoken.is (sym c.in-None.is ∙ c.named.ensures) c.first.ensures refl

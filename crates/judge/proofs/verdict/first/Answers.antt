@@ -1,16 +1,13 @@
 -- `judge::verdict::first` meets its contract: the definition computes in each arm.
+use mathlib.Core.Path.{sym}
 use borrow.Author.Rules.{rules}
 use Rattle.judge.specs.Checks.{◌else◌}
+use Rattle.judge.proofs.Laws.{else_decided}
 use Rattle.judge.proofs.verdict.first.Goals as goal
 
 pub returns-in-Obeyed : goal.returns-in-Obeyed
 unfolding ◌else◌
 returns-in-Obeyed c = search rules
 
-pub returns-in-Silent : goal.returns-in-Silent
-unfolding ◌else◌
-returns-in-Silent c = search rules
-
-pub returns-in-Refused : goal.returns-in-Refused
-unfolding ◌else◌
-returns-in-Refused c = search rules
+pub returns-in_default : goal.returns-in_default
+returns-in_default c = sym (else_decided _ _ (search rules))

@@ -19,9 +19,9 @@ returns-in-Obeyed c =
       c.in-Obeyed.is,
     )
 
-pub returns : goal.returns
+pub returns-in_default : goal.returns-in_default
 unfolding verdict_of
-returns c =
+returns-in_default c =
     rw (
       ← else_assoc,
       ← c.command_of-c.ensures,

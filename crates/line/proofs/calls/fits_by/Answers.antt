@@ -1,24 +1,20 @@
-use Rattle.std.proofs.Common.{◌≡◌, ◌<◌, length, sym, ◌∙◌, add-one, arith, rules, length-set}
-use Rattle.line.proofs.Laws.{by_few}
-use Rattle.line.proofs.Apart.{both_turn, take_set, serials_turn}
+use Rattle.std.proofs.Common.{◌≡◌, ◌<◌, length, take, sym, ◌∙◌, add-one, arith, rules}
+use Rattle.line.proofs.Apart.{among_fold, both_turn, take_set, serials_turn, by_first}
 use Rattle.line.proofs.calls.fits_by.Goals as goal
 
 pub loop-i-preserved : goal.loop-i-preserved
 loop-i-preserved c =
     let k = c.loop-i in
-    let v = k.invariant in
-    let hs = c.args.l.heads in
-    let p : k.i < length hs = omega (arith, v.3, c.loop-i-test.true, c.if-n-le32.true) in
-    let q : k.i < length k.serials = omega (arith, v.4, c.loop-i-test.true, c.if-n-le32.true) in (
-      search rules,
-      rw (c.stands.ensures, c.passes.ensures, v.1, v.2, add-one) (both_turn _ _ k.i hs p),
-      rw add-one (take_set k.i k.serials _ q ∙ rw v.2 (sym (serials_turn _ k.i hs p))),
-      v.3,
-      length-set k.serials k.i _ ∙ v.4,
-    )
+    let hs = take c.args.l.count c.args.l.heads in
+    let n : c.args.l.count ≡ length hs = search rules in
+    let q : k.i < length k.serials = omega (arith, c.passes.array_long, c.loop-i-test.true, n, c.if-l-gt32.false) in record {
+      ok = rw (c.stands.ensures ∙ among_fold (take k.i k.serials) _, c.passes.ensures, k.invariant.ok, k.invariant.gathered, add-one) (both_turn _ _ k.i hs c.loop-i-test.true);
+      gathered = rw add-one (take_set k.i k.serials _ q ∙ rw k.invariant.gathered (sym (serials_turn _ k.i hs c.loop-i-test.true)));
+    }
 
-pub returns-then-n-le32 : goal.returns-then-n-le32
-returns-then-n-le32 c =
+pub returns : goal.returns
+returns c =
     let l = c.args.l in
-    let e : c.loop-i.i ≡ l.count = omega (arith, c.loop-i-test.false, c.loop-i.invariant.0) in
-    (rw e at c.loop-i.invariant.1) ∙ sym (by_few _ l c.if-n-le32.true)
+    let n : l.count ≡ length (take l.count l.heads) = search rules in
+    let e : c.loop-i.i ≡ l.count = omega (arith, c.loop-i-test.false, c.loop-i.auto.i-end, n) in
+    (rw e at c.loop-i.invariant.ok) ∙ sym (by_first _ l c.if-l-gt32.false)

@@ -1,29 +1,18 @@
--- `order_form::search::first_repeat` meets its contract: no row before the loop's place repeats one.
-use mathlib.Core.Path.{refl}
-use native.Mathlib.Omega.{arith}
+-- Each way out is by what `place` found, or did not, among the rows before.
+use mathlib.Core.Path.{sym, ◌∙◌}
 use Rattle.order_form.proofs.Repeats.{serial_here, number_here, next, ends}
 use Rattle.order_form.proofs.search.first_repeat.Goals as goal
 
-pub loop-k-init : goal.loop-k-init
-loop-k-init c = (omega arith, refl)
+pub returns-in-Some : goal.returns-in-Some
+returns-in-Some c = serial_here _ _ c.loop-k-test.true c.loop-k.invariant _ (sym c.place.ensures ∙ c.in-Some.is)
 
-pub returns-then-serial-k : goal.returns-then-serial-k
-returns-then-serial-k c = let a = c.args in
-    serial_here a.n a.rows c.loop-k.k (omega arith) c.loop-k-test.true c.loop-k.invariant.1 _ c.place-serial.ensures
-    c.if-serial-k.true
-
-pub returns-then-number-k : goal.returns-then-number-k
-returns-then-number-k c = let a = c.args in
-    number_here a.n a.rows c.loop-k.k (omega arith) c.loop-k-test.true c.loop-k.invariant.1 _ c.place-serial.ensures
-    c.if-serial-k.false _ c.place-number.ensures c.if-number-k.true
+pub returns-in-Some-place : goal.returns-in-Some-place
+returns-in-Some-place c =
+    number_here _ _ c.loop-k-test.true c.loop-k.invariant (sym c.place.ensures ∙ c.in_default.is) _ (sym c.place-in-loop-k.ensures ∙ c.in-Some-place.is)
 
 pub loop-k-preserved : goal.loop-k-preserved
-loop-k-preserved c = let a = c.args in (
-  omega arith,
-  next a.n a.rows c.loop-k.k (omega arith) c.loop-k-test.true c.loop-k.invariant.1 _ c.place-serial.ensures
-      c.if-serial-k.false _ c.place-number.ensures c.if-number-k.false,
-)
+loop-k-preserved c =
+    next _ _ c.loop-k-test.true c.loop-k.invariant (sym c.place.ensures ∙ c.in_default.is) (sym c.place-in-loop-k.ensures ∙ c.in_default-place.is)
 
 pub returns : goal.returns
-returns c = let a = c.args in
-    ends a.n a.rows c.loop-k.k c.loop-k.invariant.0 c.loop-k-test.false c.loop-k.invariant.1
+returns c = ends c.args.rows.now c.loop-k.k c.loop-k-test.false c.loop-k.invariant

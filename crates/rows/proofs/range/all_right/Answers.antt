@@ -8,4 +8,4 @@ use Rattle.rows.proofs.range.all_right.Goals as goal
 pub returns : goal.returns
 returns c = let a = c.args in
     let long : length a.values ≡ 39 = search rules in
-    rw (c.last_right.ensures, c.middle_right.ensures, c.first_right.ensures) (written_out a.values long)
+    rw (c.right_from-3.ensures, c.right_from-2.ensures, c.right_from.ensures) (written_out a.values long)

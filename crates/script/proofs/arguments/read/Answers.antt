@@ -1,42 +1,28 @@
--- `script::arguments::read` meets its contract. The invariant: what the words from the first place on say is what those from the place `at` on say,
+-- `script::arguments::read` meets its contract. The invariant: what the words that are left at first say is what those that are left now say,
 -- from number i on.
-use mathlib.Core.Path.{refl, ◌∙◌}
-use native.Mathlib.Omega.{arith}
-use borrow.Author.Rules.{rules}
-use lib.ListN.{length-set}
+use Rattle.std.proofs.Common.{refl, ◌∙◌, length-set}
 use Rattle.script.specs.Arguments.{arguments_of}
 use Rattle.script.proofs.Taken.{numbers_end, number_unfit, number_on}
 use Rattle.script.proofs.arguments.read.Goals as goal
 
 pub loop-i-init : goal.loop-i-init
 unfolding arguments_of
-loop-i-init c = (search rules, search rules, refl)
+loop-i-init c = (refl, refl)
 
-pub returns-then-most-i : goal.returns-then-most-i
-unfolding arguments_of
-returns-then-most-i c =
-    let t = c.args.takes in
-    c.ended.ensures ∙ numbers_end t.0 t.1 c.loop-i.i (omega arith) _ _ _ ∙ c.loop-i.invariant.2
-
-pub returns-in_default : goal.returns-in_default
-unfolding arguments_of
-returns-in_default c =
-    let t = c.args.takes in
-    c.unfit.ensures
-    ∙ number_unfit t.0 t.1 c.loop-i.i (omega arith) (omega arith) _ _ _ _ c.first.ensures c.decimal.ensures c.in_default.is
-    ∙ c.loop-i.invariant.2
+pub returns-in_err-numbers : goal.returns-in_err-numbers
+returns-in_err-numbers c =
+    let k = c.loop-i in
+    c.from_residual.ensures
+    ∙ number_unfit _ k.i c.loop-i-test.true _ _ _ _ c.first.ensures c.decimal.ensures c.in_err-numbers.was
+    ∙ k.invariant.1
 
 pub loop-i-preserved : goal.loop-i-preserved
 loop-i-preserved c =
-    let t = c.args.takes in (
-      c.loop-i.invariant.0,
-      simp length-set c.loop-i.invariant.1,
-      number_on t.0 t.1 c.loop-i.i (omega arith) (omega arith) _ _ _ _ c.first.ensures c.decimal.ensures c.in-Is.is c.after-at.ensures
-          ∙ c.loop-i.invariant.2,
+    let k = c.loop-i in (
+      simp length-set k.invariant.0,
+      rw c.after-rest.ensures.line
+          (number_on _ k.i c.loop-i-test.true _ _ _ _ c.first.ensures c.decimal.ensures c.in_ok-numbers.was c.after-rest.ensures.from ∙ k.invariant.1),
     )
 
 pub returns : goal.returns
-unfolding arguments_of
-returns c =
-    let t = c.args.takes in
-    c.ended-2.ensures ∙ numbers_end t.0 t.1 c.loop-i.i (omega arith) _ _ _ ∙ c.loop-i.invariant.2
+returns c = c.ended.ensures ∙ numbers_end _ c.loop-i.i c.loop-i-test.false _ _ _ ∙ c.loop-i.invariant.1

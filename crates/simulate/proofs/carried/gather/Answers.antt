@@ -6,4 +6,4 @@ use Rattle.simulate.proofs.carried.gather.Goals as goal
 pub loop-i-preserved : goal.loop-i-preserved
 loop-i-preserved c =
     let p : c.loop-i.i < length c.loop-i.bytes = omega arith in
-    (omega arith, simp length-set (omega arith), gathered _ c.loop-i.bytes c.loop-i.i p c.byte_at.ensures c.loop-i.invariant.2)
+    (simp length-set (omega arith), gathered _ c.loop-i.bytes c.loop-i.i p c.byte_at.ensures c.loop-i.invariant.1)

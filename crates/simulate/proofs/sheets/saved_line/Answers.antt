@@ -16,4 +16,4 @@ spelled space digits room e =
     (ap (λ (l : List ℕ). text "saved " ++ (l ++ (code "\n" ∷ []))) (e ∙ filled (replicate 548 (code " ")) (take 274 space) (omega arith)))
 
 pub returns : goal.returns
-returns c = spelled c.args.space.now c.spell.new.text c.if-space-lt274.false c.spell.ensures
+returns c = rw c.copy_from_slice.ensures.after (spelled c.args.space.now c.spell.new.text c.if-space-lt274.false (rw c.copy_from_slice.ensures.after at c.spell.ensures))

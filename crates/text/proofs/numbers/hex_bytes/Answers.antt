@@ -1,31 +1,27 @@
--- `text::numbers::hex_bytes` meets its contract. The invariant: the count is n and what the characters from place i on come to.
-use mathlib.Core.Path.{sym, ◌∙◌}
-use native.Mathlib.Nat.{zero-add}
-use native.Mathlib.Omega.{arith}
-use borrow.Author.Tests.{lt-ltb, le-ltb}
-use Rattle.text.specs.Numbers.{count_of}
-use Rattle.text.proofs.Spelled.{pair_on, pair_not_high, pair_not_low, pair_half, pairs_end}
+-- `text::numbers::hex_bytes` meets its contract: two characters for each byte, and all of them hex digits.
+use Rattle.std.proofs.Common.{rules, tests, sym, ◌∙◌, ◌%◌, length, eq-eqb, ne_eqb}
+use mathlib.Core.Bool.{and-false}
+use Rattle.std.proofs.lemmas.Iterator.{YieldsList-from_slice}
+use Rattle.std.proofs.lemmas.Iterator.Search.{all_from_yields_List}
+use Rattle.text.specs.Numbers.{is_hex, count_of}
+use Rattle.text.proofs.Spelled.{in_pairs_is, half}
 use Rattle.text.proofs.numbers.hex_bytes.Goals as goal
+use Rattle.text.proofs.numbers.hex_bytes.Goals.{else-word-eq0-via-then-word-eq0+else-all, else-word-eq0-via-else-word-eq0}
 
-pub loop-i-init : goal.loop-i-init
+pub returns-then-all : goal.returns-then-all
 unfolding count_of
-loop-i-init c = (omega arith, simp zero-add)
+returns-then-all c =
+    let xs = c.args.word.now in
+    let e = all_from_yields_List is_hex _ _ c.all.result c.all.ensures.ran (YieldsList-from_slice xs cc) (λ x b q k. search (rules, tests)) in
+    simp (in_pairs_is xs, eq-eqb (length xs % 2) 0 c.if-word-eq0.true, sym e ∙ c.if-all.true, half xs)
 
-pub returns-then-word-i-lt2 : goal.returns-then-word-i-lt2
-returns-then-word-i-lt2 c = sym (pair_half _ _ _ c.loop-i-test.true (omega arith)) ∙ c.loop-i.invariant.1
-
-pub returns-then-hex-ge16 : goal.returns-then-hex-ge16
-returns-then-hex-ge16 c =
-    sym (pair_not_high _ c.args.word.now c.loop-i.i (omega arith) (le-ltb _ _ (rw c.hex.ensures at c.if-hex-ge16.true))) ∙ c.loop-i.invariant.1
-
-pub returns-then-hex-ge16-2 : goal.returns-then-hex-ge16-2
-returns-then-hex-ge16-2 c =
-    sym (pair_not_low _ c.args.word.now c.loop-i.i (omega arith) (lt-ltb _ _ (rw c.hex.ensures at c.if-hex-ge16.false)) (le-ltb _ _ (rw c.hex-in-loop-i.ensures at c.if-hex-ge16-2.true)))
-    ∙ c.loop-i.invariant.1
-
-pub loop-i-preserved : goal.loop-i-preserved
-loop-i-preserved c =
-    (omega arith, sym (pair_on _ c.args.word.now c.loop-i.i (omega arith) (lt-ltb _ _ (rw c.hex.ensures at c.if-hex-ge16.false)) (lt-ltb _ _ (rw c.hex-in-loop-i.ensures at c.if-hex-ge16-2.false))) ∙ c.loop-i.invariant.1)
-
-pub returns : goal.returns
-returns c = sym (pairs_end _ _ _ c.loop-i-test.false) ∙ c.loop-i.invariant.1
+pub returns-else-word-eq0 : goal.returns-else-word-eq0
+unfolding count_of
+returns-else-word-eq0 c =
+    let xs = c.args.word.now in
+    elim c.else-word-eq0.branch [
+      | else-word-eq0-via-then-word-eq0+else-all w ↦
+          let e = all_from_yields_List is_hex _ _ w.all.result w.all.ensures.ran (YieldsList-from_slice xs cc) (λ x b q k. search (rules, tests)) in
+          simp (in_pairs_is xs, sym e ∙ w.if-all.false, and-false)
+      | else-word-eq0-via-else-word-eq0 w ↦ simp (in_pairs_is xs, ne_eqb (length xs % 2) 0 w.if-word-eq0.false)
+    ]

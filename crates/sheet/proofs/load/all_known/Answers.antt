@@ -1,0 +1,12 @@
+-- `sheet::load::all_known` meets its contract: it is true just where each row is so. The search takes the number that the range gives at i where a list is read at i.
+use Rattle.std.proofs.Common.{◌≡◌, ◌<◌, ℕ, true, rules, get_or, refl}
+use Rattle.std.proofs.iter.runs.Sources.{ranges}
+use Rattle.sheet.specs.Loading.{known_of}
+use Rattle.sheet.proofs.Each.{each_answered}
+use Rattle.sheet.proofs.load.all_known.Goals as goal
+
+pub returns : goal.returns
+returns c =
+    let s = c.args.sheet.now in
+    let all : ((i : ℕ) → i < c.args.n → known_of s i ≡ true) → c.all.result ≡ true = λ h. search (rules, ranges, h) in
+    each_answered (known_of s) c.args.n c.all.result ((λ t i lt. let read : get_or s i 0 ≡ get_or s i 0 = refl in search (rules, ranges)), all)

@@ -1,6 +1,0 @@
--- No more is kept than the line has room for.
-use Rattle.std.proofs.Common.{◌≤◌, length}
-use Rattle.simulate.proofs.reading.read.Given as goal
-
-abbrev pub invariant-loop : goal.invariant-loop
-invariant-loop g l = l.r.kept ≤ length l.line
