@@ -100,6 +100,10 @@ module _ (t : Telegram) where
   abbrev pub outside : Fault → Head → Told
   outside fault n = cond casts (silent n) (complain fault (cond (is 0xD2) (offer 0 n) n))
 
+  -- nothing is asked of a head with this number in force: silence, whatever the other checks say
+  abbrev pub unasked : ℕ → ℕ → Bool
+  unasked number hit = cond (eqb hit 0 && casts) (not (may_broadcast t.parameter)) (not (eqb t.node number))
+
   -- ---- the head h before it
   module _ (h : Head) where
     abbrev pub mine : Bool

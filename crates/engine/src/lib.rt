@@ -15,11 +15,13 @@ mod way;
 mod writes;
 
 ghost use Rattle.std.specs.Prelude.{◌≡◌};
+ghost use Rattle.engine.specs.Way.{unasked, way};
 ghost use Rattle.engine.specs.Answer.{refusal_of, told_of, answered_by, refused_with, answer_of};
 
-use case::Case;
+use case::{BROADCAST, Case};
 use state::parts::Head;
 use state::wellformed;
+use wire::telegram::Telegram;
 use wire::{check, telegram};
 
 // Why a telegram is not answered: the head handed in is one that cannot be.
@@ -80,17 +82,44 @@ impl Told {
     }
 }
 
-#[tactic(auto, unfolding(crate::specs::Answer::told_of))]
+// What the checks come to, for a telegram that asks this head.
+fn asked(telegram: Telegram, before: Head, heard: Head, hit: u8) -> Told
+    ensures { result ≡ way telegram before heard hit }
+{
+    let case = Case {
+        telegram,
+        before,
+        heard,
+    };
+    case.way(hit)
+}
+
+// Whether nothing is asked of a head with this number in force: a sound broadcast to a parameter that allows none, and any other telegram at another
+// number, damaged or not.
+#[tactic(auto, using(crate::proofs::Addressed::broadcast_is))]
+fn is_unasked(telegram: Telegram, number: u32, hit: u8) -> bool
+    ensures { result ≡ unasked telegram number hit }
+{
+    if hit == 0 && telegram.command == BROADCAST {
+        !rows::access::broadcast(telegram.parameter)
+    } else {
+        telegram.node as u32 != number
+    }
+}
+
+// Most telegrams ask nothing of this head, and are met with silence before their case is made.
+#[tactic(auto, unfolding(crate::specs::Answer::told_of, crate::specs::Way::way))]
 fn tell(before: Head, ten: [u8; 10], at: u32) -> Told
     ensures { result ≡ told_of before ten at }
 {
     let hit = check::hit(ten);
-    let case = Case {
-        telegram: telegram::fields(ten),
-        before,
-        heard: hears::hearing(hit, at, before),
-    };
-    case.way(hit)
+    let telegram = telegram::fields(ten);
+    let heard = hears::hearing(hit, at, before);
+    if is_unasked(telegram, before.stored.number, hit) {
+        says::silent(heard)
+    } else {
+        asked(telegram, before, heard, hit)
+    }
 }
 
 fn refused(head: Head) -> Answered

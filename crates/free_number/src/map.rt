@@ -111,11 +111,11 @@ pub fn remove(map: Map, node: u32) -> Change
     make(map, node, false, Refusal::Unused)
 }
 
-// The lowest number from 1 to 127 that is not used, if one is.
+// The lowest number from 1 to 127 that is not used, if one is: the trailing zeros of the complemented map word end at its lowest clear bit.
 pub fn lowest_free(map: Map) -> Option<u32>
     ensures { result ≡ lowest_of (used map) }
 {
-    let lowest = map.whole().trailing_ones() + 1;
+    let lowest = (!map.whole()).trailing_zeros() + 1;
     if lowest <= LAST { Some(lowest) } else { None }
 }
 

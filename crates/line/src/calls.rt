@@ -2,7 +2,7 @@
 ghost use Rattle.std.specs.Prelude.{◌≡◌, Bool, Ok, Err, length, drop, map, eqb};
 ghost use Rattle.std.specs.List.{list_any};
 ghost use Rattle.head.specs.Calls.{guarded};
-ghost use Rattle.line.specs.Calls.{empty_of, fits_by, fits_of, done_with, refused_with, head_at, placed_of, grow_of, byte_of, byte_space_of, tick_of, named_by, named_of, measure_of, unfed, keys_of, keys_space_of, power_of, bring_of, last_hit_of, serial_number_of, load_of, save_of, save_space_of};
+ghost use Rattle.line.specs.Calls.{empty_of, fits_by, fits_of, done_with, refused_with, head_at, placed_of, grow_of, byte_of, byte_space_of, tick_of, named_by, named_of, measure_of, keys_of, keys_space_of, power_of, bring_of, last_hit_of, serial_number_of, load_of, save_of, save_space_of};
 ghost use Rattle.line.specs.Round.{ticked_at};
 ghost use Rattle.line.specs.Stretch.{until_of, until_space_of};
 
@@ -65,10 +65,10 @@ pub fn count(l: Line) -> usize
 }
 
 // Whether the line is one that can be: at most 32 heads, each below the count let pass by its test, no two with one serial number. The serial numbers
-// are gathered on the way, so that each head is read once.
+// are gathered on the way, so that each head is read once. The line is lent; `fits` takes it by value, for other crates.
 #[tactic(auto, unfolding(crate::specs::Calls::fits_by))]
-fn fits_by(bringing: bool, l: Line) -> bool
-    ensures { result ≡ fits_by bringing l }
+fn fits_by(bringing: bool, l: &Line) -> bool
+    ensures { result ≡ fits_by bringing l.now }
 {
     if 32 < l.count {
         return false;
@@ -86,7 +86,7 @@ fn fits_by(bringing: bool, l: Line) -> bool
 pub fn fits(l: Line) -> bool
     ensures { result ≡ fits_of l }
 {
-    fits_by(false, l)
+    fits_by(false, &l)
 }
 
 fn done(l: Line) -> Called
@@ -108,8 +108,8 @@ fn refused(l: Line, why: Refusal) -> Called
 }
 
 // The head at a place; at no place, the factory head.
-fn head_at(l: Line, i: usize) -> Head
-    ensures { result ≡ head_at l i }
+fn head_at(l: &Line, i: usize) -> Head
+    ensures { result ≡ head_at l.now i }
 {
     match l.heads.get(i) {
         Some(h) => *h,
@@ -119,14 +119,12 @@ fn head_at(l: Line, i: usize) -> Head
 
 // A head put at a place; at no place, nothing is put.
 #[tactic(auto, unfolding(crate::specs::Calls::placed_of))]
-fn placed(l: Line, i: usize, h: Head) -> Line
-    ensures { result ≡ placed_of l i h }
+fn place(l: &mut Line, i: usize, h: Head)
+    ensures { l.new ≡ placed_of l.old i h }
 {
-    let mut k = l;
     if i < 32 {
-        k.heads[i] = h;
+        l.heads[i] = h;
     }
-    k
 }
 
 // Whether one of these heads has this serial number.
@@ -141,7 +139,7 @@ fn is_taken(heads: &[Head], serial: u32) -> bool
 pub fn grow(l: Line, node: u32, serial: u32) -> Called
     ensures { result ≡ grow_of l node serial }
 {
-    if !fits(l) {
+    if !fits_by(false, &l) {
         return refused(l, Refusal::Malformed);
     }
     let n = l.count;
@@ -170,7 +168,7 @@ pub fn until_reply(l: Line, bytes: &[u8], from: usize, at: u32, space: &mut [u8]
 {
     let mut heads = l.heads;
     let mut next = from;
-    let heard = if !fits(l) {
+    let heard = if !fits_by(false, &l) {
         Err(Refusal::Malformed)
     } else if space.len() < 10 {
         Err(Refusal::Space)
@@ -220,7 +218,7 @@ fn tick_each(heads: &mut [Head], at: u32)
 pub fn tick(l: Line, at: u32) -> Called
     ensures { result ≡ tick_of l at }
 {
-    if !fits(l) {
+    if !fits_by(false, &l) {
         return refused(l, Refusal::Malformed);
     }
     let mut heads = l.heads;
@@ -232,8 +230,8 @@ pub fn tick(l: Line, at: u32) -> Called
 }
 
 // The head that a call names: 20, then 3.
-fn chosen(bringing: bool, l: Line, i: usize) -> Result<Head, Refusal>
-    ensures { result ≡ guarded Err (named_by bringing l i) (Ok (head_at l i)) }
+fn chosen(bringing: bool, l: &Line, i: usize) -> Result<Head, Refusal>
+    ensures { result ≡ guarded Err (named_by bringing l.now i) (Ok (head_at l.now i)) }
 {
     if !fits_by(bringing, l) {
         return Err(Refusal::Malformed);
@@ -247,16 +245,17 @@ fn chosen(bringing: bool, l: Line, i: usize) -> Result<Head, Refusal>
 
 // What a call made of the head that it names alone, put back in its place, with its answer.
 #[tactic(auto, unfolding(crate::specs::Calls::named_of))]
-fn named(bringing: bool, l: Line, i: usize, c: calls::Called) -> Called
+fn named(bringing: bool, mut l: Line, i: usize, c: calls::Called) -> Called
     ensures { result ≡ named_of bringing l i c }
 {
-    match chosen(bringing, l, i) {
-        Ok(_) => Called {
-            line: placed(l, i, c.head),
-            answer: c.answer,
-        },
-        Err(why) => refused(l, why),
-    }
+    let answer = match chosen(bringing, &l, i) {
+        Ok(_) => {
+            place(&mut l, i, c.head);
+            c.answer
+        }
+        Err(why) => Err(why),
+    };
+    Called { line: l, answer }
 }
 
 // A measurement of one head.
@@ -264,34 +263,24 @@ fn named(bringing: bool, l: Line, i: usize, c: calls::Called) -> Called
 pub fn measure(l: Line, i: usize, m: i32) -> Called
     ensures { result ≡ measure_of l i m }
 {
-    named(false, l, i, calls::measure(head_at(l, i), m))
-}
-
-fn unfed(l: Line, why: Refusal) -> Fed
-    ensures { result ≡ unfed l why }
-{
-    Fed {
-        line: l,
-        heard: Err(why),
-    }
+    named(false, l, i, calls::measure(head_at(&l, i), m))
 }
 
 // A key state of one head, with lent reply space: 20, then 3, then what the head alone makes of both.
 #[tactic(auto, unfolding(crate::specs::Calls::keys_of, crate::specs::Calls::keys_space_of))]
-pub fn keys(l: Line, i: usize, state: u32, space: &mut [u8]) -> Fed
+pub fn keys(mut l: Line, i: usize, state: u32, space: &mut [u8]) -> Fed
     ensures value { result ≡ keys_of l i state (length space.old) }
     ensures space_after { space.new ≡ keys_space_of l i state space.old }
 {
-    match chosen(false, l, i) {
+    let heard = match chosen(false, &l, i) {
         Ok(h) => {
             let f = calls::keys(h, state, space);
-            Fed {
-                line: placed(l, i, f.head),
-                heard: f.heard,
-            }
+            place(&mut l, i, f.head);
+            f.heard
         }
-        Err(why) => unfed(l, why),
-    }
+        Err(why) => Err(why),
+    };
+    Fed { line: l, heard }
 }
 
 // Power off and on at one head.
@@ -299,7 +288,7 @@ pub fn keys(l: Line, i: usize, state: u32, space: &mut [u8]) -> Fed
 pub fn power(l: Line, i: usize) -> Called
     ensures { result ≡ power_of l i }
 {
-    named(false, l, i, calls::power(head_at(l, i)))
+    named(false, l, i, calls::power(head_at(&l, i)))
 }
 
 // An older head brought over, whatever other older heads there are.
@@ -307,7 +296,7 @@ pub fn power(l: Line, i: usize) -> Called
 pub fn bring(l: Line, i: usize) -> Called
     ensures { result ≡ bring_of l i }
 {
-    named(true, l, i, calls::bring(head_at(l, i)))
+    named(true, l, i, calls::bring(head_at(&l, i)))
 }
 
 // What the last damaged telegram that one head heard was hit by.
@@ -315,7 +304,7 @@ pub fn bring(l: Line, i: usize) -> Called
 pub fn last_hit(l: Line, i: usize) -> Result<u8, Refusal>
     ensures { result ≡ last_hit_of l i }
 {
-    calls::last_hit(chosen(false, l, i)?)
+    calls::last_hit(chosen(false, &l, i)?)
 }
 
 // The serial number of one head.
@@ -323,7 +312,7 @@ pub fn last_hit(l: Line, i: usize) -> Result<u8, Refusal>
 pub fn serial_number(l: Line, i: usize) -> Result<u32, Refusal>
     ensures { result ≡ serial_number_of l i }
 {
-    calls::serial_number(chosen(false, l, i)?)
+    calls::serial_number(chosen(false, &l, i)?)
 }
 
 // A sheet loaded into one head.
@@ -331,7 +320,7 @@ pub fn serial_number(l: Line, i: usize) -> Result<u32, Refusal>
 pub fn load(l: Line, i: usize, sheet: &[u8]) -> Called
     ensures { result ≡ load_of l i sheet.now }
 {
-    named(false, l, i, calls::load(head_at(l, i), sheet))
+    named(false, l, i, calls::load(head_at(&l, i), sheet))
 }
 
 // The settings of one head written on a sheet at the start of the space: 20, then 3, then what the head alone writes.
@@ -340,5 +329,5 @@ pub fn save(l: Line, i: usize, space: &mut [u8]) -> Result<(), Refusal>
     ensures value { result ≡ save_of l i (length space.old) }
     ensures space_after { space.new ≡ save_space_of l i space.old }
 {
-    calls::save(chosen(false, l, i)?, space)
+    calls::save(chosen(false, &l, i)?, space)
 }

@@ -10,15 +10,19 @@ use wire::{check, telegram, word};
 // Why a telegram is not built: its command is above 02h, or its node above 127.
 #[derive(Clone, Copy)]
 pub enum Refusal {
-    Outside = 10,
+    Outside,
 }
 
 impl Refusal {
+    pub const OUTSIDE: u32 = 10;
+
     // The document's number.
     pub fn number(self) -> u32
         ensures { result ≡ refusal_of self }
     {
-        self as u32
+        match self {
+            Refusal::Outside => Refusal::OUTSIDE,
+        }
     }
 }
 

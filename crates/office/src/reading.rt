@@ -1,6 +1,6 @@
 // The list of telegrams, read in pieces and taken apart into lines.
 // The functions here stand much alike in each program that reads lines: they print, or call what prints, and no contract of a library could say what.
-ghost use Rattle.std.specs.Prelude.{◌≡◌};
+ghost use Rattle.std.specs.Prelude.{◌≡◌, []};
 ghost use Rattle.text.specs.Reading.{ended_of, closed_of, read_of};
 ghost use Rattle.office.specs.Reading.{noted_of, state_of, progress_of, most};
 
@@ -50,7 +50,8 @@ impl Reading {
     // The end of the list: what is kept, if anything, is a last line without a newline.
     #[tactic(auto, unfolding(text::specs::Reading::closed_of))]
     fn close(&mut self, rt: &impl Print, line: &mut Kept<KEPT>) -> io::Result<()>
-        ensures { state_of self.new ≡ closed_of noted_of (progress_of self.old line.old) }
+        ensures kept_value { line.new ≡ [] }
+        ensures result_value { state_of self.new ≡ closed_of noted_of (progress_of self.old line.old) }
     {
         if line.is_empty() {
             return Ok(());

@@ -142,8 +142,8 @@ impl Desk {
 }
 
 // One line more, which is this.
-fn entered(mut desk: Desk, entry: Entry) -> Desk
-    ensures { result ≡ entered_of desk entry }
+fn entered(desk: &mut Desk, entry: Entry)
+    ensures { desk.new ≡ entered_of desk.old entry }
 {
     desk.lines = desk.lines.wrapping_add(1);
     desk.first = desk.first && matches!(entry, Entry::Blank);
@@ -152,15 +152,15 @@ fn entered(mut desk: Desk, entry: Entry) -> Desk
         Entry::Row { serial, node } => desk.add(Row { serial, node }),
         Entry::Malformed => desk.malformed = desk.malformed.or(Some(desk.lines)),
     }
-    desk
 }
 
-// One line more.
+// One line more. The desk is lent: to hand it on and back by value would copy all its rows for each line.
 #[tactic(auto, unfolding(crate::specs::Desk::noted_of))]
-pub(crate) fn noted(d: Desk, text: &[u8]) -> Desk
-    ensures { result ≡ noted_of d text.now }
+pub(crate) fn noted(d: &mut Desk, text: &[u8])
+    ensures { d.new ≡ noted_of d.old text.now }
 {
-    entered(d, form_text::entry(text, d.lines == 0, d.first))
+    let entry = form_text::entry(text, d.lines == 0, d.first);
+    entered(d, entry);
 }
 
 // What the clerk is told: a malformed line goes before all else.

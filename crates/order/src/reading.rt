@@ -1,6 +1,6 @@
 // The form, read in pieces and taken apart into lines. The functions here stand much alike in each program that reads lines: a library could take what
 // is done with a line only as a closure that it asks something of, and here no public function asks anything.
-ghost use Rattle.std.specs.Prelude.{◌≡◌};
+ghost use Rattle.std.specs.Prelude.{◌≡◌, []};
 ghost use Rattle.text.specs.Reading.{ended_of, closed_of, read_of};
 ghost use Rattle.order.specs.Desk.{noted_of};
 ghost use Rattle.order.specs.Reading.{progress_of, room};
@@ -21,7 +21,7 @@ impl Desk {
     fn end(&mut self, line: &mut Kept<KEPT>)
         ensures { progress_of self.new line.new ≡ ended_of noted_of (progress_of self.old line.old) }
     {
-        *self = desk::noted(*self, &line.text[..line.count]);
+        desk::noted(self, &line.text[..line.count]);
         line.clear();
     }
 
@@ -39,7 +39,8 @@ impl Desk {
     // The end of the form: what is kept, if anything, is a last line without a newline.
     #[tactic(auto, unfolding(text::specs::Reading::closed_of))]
     fn close(&mut self, line: &mut Kept<KEPT>)
-        ensures { self.new ≡ closed_of noted_of (progress_of self.old line.old) }
+        ensures kept_value { line.new ≡ [] }
+        ensures desk_value { self.new ≡ closed_of noted_of (progress_of self.old line.old) }
     {
         if !line.is_empty() {
             self.end(line);

@@ -9,6 +9,7 @@ use borrow.Author.Tests.{lt-ltb, le-ltb, ltb-true, ltb-false}
 use lib.Dec.{ltb}
 use lib.IntN.{ℤ, pos, negsuc, nat_abs, neg_ℤ, sub_ℕ, ◌+ℤ◌, ◌-ℤ◌}
 use lib.Signed.{lt_z, mag}
+use Rattle.signed.specs.Number.{minus}
 
 pub less_or_not : (a b : ℕ) → (a < b) ⊎ (b ≤ a)
 less_or_not a b = go (ltb a b) refl
@@ -21,6 +22,15 @@ less_or_not a b = go (ltb a b) refl
 pub above : (v : ℤ) → lt_z v (pos 0) ≡ false → v ≡ pos (mag v)
 above (pos n) e = refl
 above (negsuc n) e = absurd (true≢false e)
+
+-- a number is its size with its sign
+pub minus_size : (z : ℤ) → lt_z z (pos 0) ≡ true → minus (nat_abs z) ≡ z
+minus_size (pos n) e = absurd (omega (arith, ltb-true n 0 e))
+minus_size (negsuc n) e = refl
+
+pub plus_size : (z : ℤ) → lt_z z (pos 0) ≡ false → pos (nat_abs z) ≡ z
+plus_size (pos n) e = refl
+plus_size (negsuc n) e = absurd (true≢false e)
 
 -- the sizes of a sum and of a difference
 pub abs_neg : (z : ℤ) → nat_abs (neg_ℤ z) ≡ nat_abs z

@@ -1,13 +1,14 @@
 -- What `lines::take_in` leaves at the start of a line is what is kept of it, byte for byte: by induction over the bytes that are taken.
 -- Assumes nothing.
 use Prim.Native.Nat.{ℕ, suc, ◌+◌, ◌-◌, ◌≤◌, ◌<◌, min}
-use mathlib.Core.Bool.{Bool, true, false}
+use Prim.Native.Char.{code}
+use mathlib.Core.Bool.{Bool, true, false, cond}
 use mathlib.Core.List.{List, [], ◌∷◌}
 use mathlib.Core.Path.{◌≡◌, refl}
 use native.Mathlib.Omega.{arith}
 use borrow.Author.Tests.{ltb-true, ltb-false}
-use lib.Dec.{ltb}
-use lib.ListN.{length, take, drop, set, length-set}
+use lib.Dec.{eqb, ltb}
+use lib.ListN.{length, take, drop, set, length-set, length-drop}
 use lib.Seq.{length-take-le, take-suc-set}
 use Rattle.std.specs.Prelude.{Some, None}
 use Rattle.text.specs.declared.lines.Taken.{Taken}
@@ -69,3 +70,18 @@ module _ (room : ℕ) (line : List ℕ) (kept : ℕ) (piece : List ℕ) (from : 
   pub over : r.ended ≡ false → None ≡ next_of piece from
   unfolding taken_of next_of
   over e = let no_end : ends_of (drop from piece) ≡ false = rw taken at e in simp no_end
+
+-- of what is left something is taken
+some : (rest : List ℕ) → 0 < length rest → 0 < length (front_of rest) + cond (ends_of rest) 1 0
+some [] h = absurd (omega arith)
+some (b ∷ bs) h = go (eqb b (code "\n")) refl
+  where
+    go : (t : Bool) → eqb b (code "\n") ≡ t → 0 < length (front_of (b ∷ bs)) + cond (ends_of (b ∷ bs)) 1 0
+    go true e = simp e (omega arith)
+    go false e = simp e (omega arith)
+
+-- so less of the piece is left, whether a newline was found or not
+pub fewer : {r : Taken} (room kept : ℕ) (piece : List ℕ) (from : ℕ) → r ≡ taken_of room kept piece from → from < length piece
+    → length piece - r.at < length piece - from
+unfolding taken_of
+fewer room kept piece from taken h = let k = some (drop from piece) (simp length-drop (omega arith)) in rw taken (omega arith)

@@ -4,23 +4,57 @@ ghost use Rattle.wire.specs.Faults.{code_of};
 
 #[derive(Clone, Copy)]
 pub enum Fault {
-    CheckSum = 0x0080,
-    Timeout = 0x0081,
-    Unlisted = 0x0082,
-    Below = 0x0182,
-    Above = 0x0282,
-    UnknownParameter = 0x0083,
-    NoAccess = 0x0084,
-    WriteRefused = 0x0184,
-    ReadRefused = 0x0284,
-    DeviceState = 0x0085,
-    Locked = 0x0385,
+    CheckSum,
+    Timeout,
+    Unlisted,
+    Below,
+    Above,
+    UnknownParameter,
+    NoAccess,
+    WriteRefused,
+    ReadRefused,
+    DeviceState,
+    Locked,
 }
 
 impl Fault {
+    pub const CHECK_SUM: u16 = 0x0080;
+
+    pub const TIMEOUT: u16 = 0x0081;
+
+    pub const UNLISTED: u16 = 0x0082;
+
+    pub const BELOW: u16 = 0x0182;
+
+    pub const ABOVE: u16 = 0x0282;
+
+    pub const UNKNOWN_PARAMETER: u16 = 0x0083;
+
+    pub const NO_ACCESS: u16 = 0x0084;
+
+    pub const WRITE_REFUSED: u16 = 0x0184;
+
+    pub const READ_REFUSED: u16 = 0x0284;
+
+    pub const DEVICE_STATE: u16 = 0x0085;
+
+    pub const LOCKED: u16 = 0x0385;
+
     pub fn code(self) -> u16
         ensures { result ≡ code_of self }
     {
-        self as u16
+        match self {
+            Fault::CheckSum => Fault::CHECK_SUM,
+            Fault::Timeout => Fault::TIMEOUT,
+            Fault::Unlisted => Fault::UNLISTED,
+            Fault::Below => Fault::BELOW,
+            Fault::Above => Fault::ABOVE,
+            Fault::UnknownParameter => Fault::UNKNOWN_PARAMETER,
+            Fault::NoAccess => Fault::NO_ACCESS,
+            Fault::WriteRefused => Fault::WRITE_REFUSED,
+            Fault::ReadRefused => Fault::READ_REFUSED,
+            Fault::DeviceState => Fault::DEVICE_STATE,
+            Fault::Locked => Fault::LOCKED,
+        }
     }
 }

@@ -1,6 +1,6 @@
--- The trailing ones of both words as one number.
+-- The trailing zeros of the complement of both words as one number.
 use Prim.Native.Nat.{◌^◌, ◌<◌}
-use mathlib.Core.Path.{◌≡◌, ap, ◌∙◌}
+use mathlib.Core.Path.{◌≡◌, ap}
 use native.Mathlib.Nat.{add_comm}
 use native.Mathlib.Omega.{arith}
 use borrow.Author.Tests.{lt-ltb, le-ltb}
@@ -12,11 +12,11 @@ use Rattle.free_number.proofs.map.lowest_free.Goals as goal
 pub returns-then-lowest-le-LAST : goal.returns-then-lowest-le-LAST
 returns-then-lowest-le-LAST c =
     let fits : whole c.args.map < 2 ^ 128 = omega arith in
-    let ones : c.trailing_ones-lowest.result ≡ clear 128 (whole c.args.map) = c.trailing_ones-lowest.ensures ∙ ap (clear 128) c.whole.ensures in
-    rw (lowest_whole c.args.map fits, ← ones, lt-ltb c.trailing_ones-lowest.result 127 (omega arith), add_comm 1)
+    let same : clear 128 c.whole.result ≡ clear 128 (whole c.args.map) = ap (clear 128) c.whole.ensures in
+    rw (lowest_whole c.args.map fits, ← same, lt-ltb (clear 128 c.whole.result) 127 (omega arith), add_comm 1)
 
 pub returns-else-lowest-le-LAST : goal.returns-else-lowest-le-LAST
 returns-else-lowest-le-LAST c =
     let fits : whole c.args.map < 2 ^ 128 = omega arith in
-    let ones : c.trailing_ones-lowest.result ≡ clear 128 (whole c.args.map) = c.trailing_ones-lowest.ensures ∙ ap (clear 128) c.whole.ensures in
-    rw (lowest_whole c.args.map fits, ← ones, le-ltb c.trailing_ones-lowest.result 127 (omega arith))
+    let same : clear 128 c.whole.result ≡ clear 128 (whole c.args.map) = ap (clear 128) c.whole.ensures in
+    rw (lowest_whole c.args.map fits, ← same, le-ltb (clear 128 c.whole.result) 127 (omega arith))

@@ -7,10 +7,10 @@ use Rattle.line.proofs.calls.until_reply.Goals as goal
 use Rattle.line.proofs.calls.until_reply.Goals.{then-loop-next-test+else-replies-eq0, else-loop-next-test}
 
 pub slice_bounds-heads-end : goal.slice_bounds-heads-end
-slice_bounds-heads-end c = let p : c.args.l.count ≤ 32 = fits_small c.args.l (sym c.fits.ensures ∙ c.if-not-fits.false) in search rules
+slice_bounds-heads-end c = let p : c.args.l.count ≤ 32 = fits_small c.args.l (sym c.fits_by.ensures ∙ c.if-not-fits_by.false) in search rules
 
 pub slice_bounds-heard-end : goal.slice_bounds-heard-end
-slice_bounds-heard-end c = let p : c.args.l.count ≤ 32 = fits_small c.args.l (sym c.fits.ensures ∙ c.if-not-fits.false) in search rules
+slice_bounds-heard-end c = let p : c.args.l.count ≤ 32 = fits_small c.args.l (sym c.fits_by.ensures ∙ c.if-not-fits_by.false) in search rules
 
 pub loop-next-preserved : goal.loop-next-preserved
 loop-next-preserved c =
@@ -26,7 +26,7 @@ pub returns-after-loop-next : goal.returns-after-loop-next
 returns-after-loop-next c =
     let g = c.loop-next.invariant in
     let a = c.args in
-    let f = sym c.fits.ensures ∙ c.if-not-fits.false in
+    let f = sym c.fits_by.ensures ∙ c.if-not-fits_by.false in
     let out = until_heard a.l _ a.from a.at a.space.now f c.if-space-lt10.false in
     elim c.loop-next-test.branch [
       | then-loop-next-test+else-replies-eq0 w ↦
