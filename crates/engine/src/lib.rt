@@ -94,8 +94,8 @@ fn asked(telegram: Telegram, before: Head, heard: Head, hit: u8) -> Told
     case.way(hit)
 }
 
-// Whether nothing is asked of a head with this number in force: a sound broadcast to a parameter that allows none, and any other telegram at another
-// number, damaged or not.
+// Whether nothing is asked of a head with this number in force: by a sound broadcast to a parameter that allows none, and by any telegram but a sound
+// broadcast at another number, damaged or not.
 #[tactic(auto, using(crate::proofs::Addressed::broadcast_is))]
 fn is_unasked(telegram: Telegram, number: u32, hit: u8) -> bool
     ensures { result ≡ unasked telegram number hit }
