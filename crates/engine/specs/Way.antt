@@ -100,7 +100,7 @@ module _ (t : Telegram) where
   abbrev pub outside : Fault → Head → Told
   outside fault n = cond casts (silent n) (complain fault (cond (is 0xD2) (offer 0 n) n))
 
-  -- nothing is asked of a head with this number in force: silence, whatever the other checks say
+  -- nothing is asked of a head with this number in force: checks 1, 2, 4 and 5 come to silence. No check goes by it, and `way` does not: it says when the code may be silent at once
   abbrev pub unasked : ℕ → ℕ → Bool
   unasked number hit = cond (eqb hit 0 && casts) (not (may_broadcast t.parameter)) (not (eqb t.node number))
 

@@ -16,7 +16,7 @@ pub enum Refusal {
 impl Refusal {
     pub const OUTSIDE: u32 = 10;
 
-    // The document's number.
+    // The document's number, by the constant, which no contract would hold if nothing used it.
     pub fn number(self) -> u32
         ensures { result ≡ refusal_of self }
     {

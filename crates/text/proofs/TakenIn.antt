@@ -1,4 +1,4 @@
--- What `lines::take_in` leaves at the start of a line is what is kept of it, byte for byte: by induction over the bytes that are taken.
+-- What `lines::take_in` leaves at the start of a line is what is kept of it, byte for byte, and less of the piece is left: by induction over the bytes that are taken.
 -- Assumes nothing.
 use Prim.Native.Nat.{ℕ, suc, ◌+◌, ◌-◌, ◌≤◌, ◌<◌, min}
 use Prim.Native.Char.{code}

@@ -40,6 +40,7 @@ impl Fault {
 
     pub const LOCKED: u16 = 0x0385;
 
+    // By the constants, which no contract would hold if nothing used them.
     pub fn code(self) -> u16
         ensures { result ≡ code_of self }
     {
